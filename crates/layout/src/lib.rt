@@ -1,0 +1,50 @@
+// The words of the tables, by name: specs/Layout.antt says what each is.
+pub const HEADER_WORDS: usize = 32;
+
+pub const CORES: usize = 0;
+
+pub const PAGES: usize = 1;
+
+pub const REFUSALS: usize = 2;
+
+pub const LINES: usize = 3;
+
+pub const IOREGSEL: usize = 4;
+
+pub const IOWIN: usize = 5;
+
+pub const REDIRECT: usize = 6;
+
+pub const BLOCK_WORDS: usize = 256;
+
+pub const GPR: usize = 0;
+
+pub const SPR: usize = 32;
+
+pub const PC: usize = 64;
+
+pub const HI: usize = 65;
+
+pub const LO: usize = 66;
+
+pub const RUNNING: usize = 67;
+
+pub const STORE_HEAD: usize = 68;
+
+pub const WALK_HEAD: usize = 69;
+
+pub const FREE_HEAD: usize = 70;
+
+pub const PORTS: usize = 72;
+
+pub const EOIPENDING: usize = 104;
+
+pub const SIPIRR: usize = 112;
+
+pub const SIPIVECT: usize = 113;
+
+pub const INITRR: usize = 114;
+
+pub const RECORDS: usize = 128;
+
+pub const RECORD_WORDS: usize = 4;
