@@ -1,0 +1,18 @@
+//! A plain simulator of the four-core MIPS-86 controller.
+//!
+//! Written from the scope paper ("01"), the MIPS-86 report of 4 November 2013
+//! ("000") and the list of settled readings ("READINGS"). Definition numbers
+//! in comments are those of 000, reading numbers those of READINGS.
+
+pub mod counts;
+pub mod generate;
+pub mod isa;
+pub mod machine;
+pub mod program;
+pub mod reach;
+pub mod soundness;
+pub mod vectors;
+
+pub use machine::{make, run, step, Answer, Run, Stop, Why};
+pub use reach::{apart, reach};
+pub use soundness::{sound, Clause};

@@ -1,0 +1,434 @@
+//! The figures at the edges of the scope paper, starred or not, and the
+//! operations' own edges.
+
+use oracle::isa::{self, alures, mures, Op, ROWS};
+use oracle::machine::{hazard, word, Walk};
+use oracle::soundness::*;
+use oracle::{make, run, sound, step, Answer, Run, Stop, Why};
+
+struct M {
+    t: Vec<u32>,
+    m: Vec<u8>,
+}
+
+const B: usize = 32; // block of core 0
+
+impl M {
+    fn new(cores: u32, pages: usize) -> M {
+        let (mut t, m) = (vec![0; table_words(cores as usize)], vec![0; pages * PAGE]);
+        make(cores, &mut t, &m).unwrap();
+        M { t, m }
+    }
+    fn step(&mut self, s: [u32; 6]) -> Answer {
+        sound(&self.t, &self.m).expect("sound before");
+        let answer = step(true, &mut self.t, &mut self.m, &s);
+        sound(&self.t, &self.m).expect("sound after");
+        answer
+    }
+    /// Lays an instruction at the (system mode) pc and takes a core step.
+    fn exec(&mut self, i: u32) -> Answer {
+        let pc = self.t[B + PC] as usize;
+        self.m[pc..pc + 4].copy_from_slice(&i.to_le_bytes());
+        self.step([0, 0, 0, 0, 0, 0])
+    }
+    fn gpr(&mut self, x: usize) -> &mut u32 {
+        &mut self.t[B + x]
+    }
+    /// A user mode core with a complete walk for page 1 to page 0, all rights.
+    fn user(&mut self) -> Walk {
+        self.t[B + MODE] = 1;
+        self.t[B + PC] = 0x1000;
+        let w = Walk::new(1, 0, 0, 7, 0);
+        self.hold(w);
+        w
+    }
+    /// Adds a walk as the machine would.
+    fn hold(&mut self, w: Walk) {
+        let n = self.t[B + FREE];
+        let r = record(B, n);
+        self.t[B + FREE] = self.t[r];
+        self.t[r] = self.t[B + WALKS];
+        self.t[r + 1] = w.first;
+        self.t[r + 2] = w.base;
+        self.t[B + WALKS] = n;
+    }
+}
+
+fn itype(op: Op, rs: u32, rt: u32, imm: u32) -> u32 {
+    let row = isa::row(op);
+    row.opcode << 26 | rs << 21 | row.rt.unwrap_or(rt) << 16 | imm & 0xFFFF
+}
+fn rtype(op: Op, rs: u32, rt: u32, rd: u32) -> u32 {
+    let row = isa::row(op);
+    row.opcode << 26 | row.rs.unwrap_or(rs) << 21 | rt << 16 | rd << 11 | row.fun.unwrap_or(0)
+}
+
+#[test]
+fn rows_and_decode_agree() {
+    for (n, row) in ROWS.iter().enumerate() {
+        assert_eq!(row.op as usize, n);
+    }
+    let matches = |i: u32| -> Vec<Op> {
+        ROWS.iter()
+            .filter(|r| {
+                r.opcode == isa::opc(i)
+                    && r.fun.is_none_or(|f| f == isa::fun(i))
+                    && r.rs.is_none_or(|s| s as usize == isa::rs(i))
+                    && r.rt.is_none_or(|t| t as usize == isa::rt(i))
+            })
+            .map(|r| r.op)
+            .collect()
+    };
+    for opcode in 0..64u32 {
+        for fun in 0..64 {
+            for reg in 0..1024u32 {
+                let i = opcode << 26 | reg << 16 | 0x5 << 11 | fun;
+                let found = matches(i);
+                assert!(found.len() <= 1);
+                assert_eq!(isa::decode(i), found.first().copied(), "{i:08X}");
+            }
+        }
+    }
+}
+
+#[test]
+fn sums_and_overflow() {
+    assert_eq!(alures(0x7FFF_FFFF, 1, 0b0001, false), (0x8000_0000, true));
+    assert_eq!(alures(0x7FFF_FFFF, 1, 0b0000, false), (0x8000_0000, false));
+    assert_eq!(alures(0xFFFF_FFFF, 1, 0b0001, false), (0, false));
+    assert_eq!(alures(0xFFFF_FFFF, 1, 0b0000, false), (0, false));
+    // Through the control bits of definition 28: addu, addiu, subu overflow;
+    // add, addi, sub don't.
+    for (i, overflows) in [
+        (rtype(Op::Add, 1, 2, 3), false),
+        (rtype(Op::Addu, 1, 2, 3), true),
+        (itype(Op::Addi, 1, 3, 1), false),
+        (itype(Op::Addiu, 1, 3, 1), true),
+    ] {
+        let mut m = M::new(1, 1);
+        *m.gpr(1) = 0x7FFF_FFFF;
+        *m.gpr(2) = 1;
+        m.t[B + SR] = 1 << 7;
+        let answer = m.exec(i);
+        assert_eq!(*m.gpr(3), 0x8000_0000);
+        if overflows {
+            assert_eq!(answer, Answer::Interrupt(7));
+            assert_eq!((m.t[B + EPC], m.t[B + ECA], m.t[B + ESR], m.t[B + SR]), (4, 1 << 7, 1 << 7, 0));
+            assert_eq!(m.t[B + PC], 0);
+        } else {
+            assert_eq!(answer, Answer::Done);
+            assert_eq!(m.t[B + PC], 4);
+        }
+    }
+    for (op, overflows) in [(Op::Sub, false), (Op::Subu, true)] {
+        let mut m = M::new(1, 1);
+        *m.gpr(1) = 0x8000_0000;
+        *m.gpr(2) = 1;
+        m.t[B + SR] = 1 << 7;
+        let answer = m.exec(rtype(op, 1, 2, 3));
+        assert_eq!(answer, if overflows { Answer::Interrupt(7) } else { Answer::Done });
+        assert_eq!(*m.gpr(3), 0x7FFF_FFFF);
+    }
+}
+
+#[test]
+fn set_on_less() {
+    let mut m = M::new(1, 1);
+    m.exec(itype(Op::Sltiu, 0, 1, 0xFFFF));
+    m.exec(itype(Op::Slti, 0, 2, 0xFFFF));
+    assert_eq!((*m.gpr(1), *m.gpr(2)), (1, 0));
+}
+
+#[test]
+fn products() {
+    let ones = 0xFFFF_FFFF;
+    assert_eq!(mures(ones, ones, 0, 0, 0b000), 1);
+    assert_eq!(mures(ones, ones, 0, 0, 0b001), 0xFFFF_FFFE_0000_0001);
+    let mut m = M::new(1, 1);
+    *m.gpr(1) = ones;
+    m.exec(rtype(Op::Mult, 1, 1, 0));
+    assert_eq!((m.t[B + HI], m.t[B + LO]), (0, 1));
+    m.exec(rtype(Op::Multu, 1, 1, 0));
+    assert_eq!((m.t[B + HI], m.t[B + LO]), (0xFFFF_FFFE, 1));
+    // mul keeps HI and LO.
+    m.exec(rtype(Op::Mul, 1, 1, 2));
+    assert_eq!((m.t[B + HI], m.t[B + LO], *m.gpr(2)), (0xFFFF_FFFE, 1, 1));
+    (m.t[B + HI], m.t[B + LO]) = (0, 0);
+    *m.gpr(1) = 1;
+    m.exec(rtype(Op::Msub, 1, 1, 0));
+    assert_eq!((m.t[B + HI], m.t[B + LO]), (ones, ones));
+    m.exec(rtype(Op::Maddu, 1, 1, 0));
+    assert_eq!((m.t[B + HI], m.t[B + LO]), (0, 0));
+}
+
+#[test]
+fn store_buffer_figures() {
+    let mut m = M::new(1, 1);
+    *m.gpr(1) = 0x1122_3344;
+    *m.gpr(2) = 0xAA;
+    assert_eq!(m.exec(itype(Op::Sw, 0, 1, 0x100)), Answer::Done);
+    assert_eq!(m.exec(itype(Op::Sb, 0, 2, 0x101)), Answer::Done);
+    assert_eq!(m.exec(itype(Op::Lbu, 0, 3, 0x101)), Answer::Done);
+    assert_eq!(m.exec(itype(Op::Lbu, 0, 4, 0x100)), Answer::Done);
+    assert_eq!((*m.gpr(3), *m.gpr(4)), (0xAA, 0x44));
+    assert!(hazard(&m.t, B, 0x100, 2));
+    assert!(!hazard(&m.t, B, 0x104, 4));
+    assert_eq!(m.exec(itype(Op::Lhu, 0, 5, 0x100)), Answer::Refused(Why::Hazard));
+    assert_eq!(m.exec(itype(Op::Lw, 0, 5, 0x104)), Answer::Done);
+    assert_eq!(m.t[REFUSALS], 1);
+    // Both leave in order.
+    m.step([4, 0, 0, 0, 0, 0]);
+    assert_eq!(word(&m.m, 0x100), Some(0x1122_3344));
+    m.step([4, 0, 0, 0, 0, 0]);
+    assert_eq!(word(&m.m, 0x100), Some(0x1122_AA44));
+}
+
+#[test]
+fn ninth_store() {
+    let mut m = M::new(1, 1);
+    for n in 0..8 {
+        assert_eq!(m.exec(itype(Op::Sw, 0, 0, 0x100 + 4 * n)), Answer::Done);
+    }
+    assert_eq!(m.exec(itype(Op::Sw, 0, 0, 0x200)), Answer::Refused(Why::NinthStore));
+    assert_eq!(Why::NinthStore.number(), 8);
+    assert_eq!(m.step([4, 0, 0, 0, 0, 0]), Answer::Done);
+    assert_eq!(m.exec(itype(Op::Sw, 0, 0, 0x200)), Answer::Done);
+    // The freed record 1 was the one taken.
+    assert_eq!(m.t[record(B, 1) + 1], 0x200);
+    assert_eq!(m.t[record(B, 8)], 1);
+}
+
+#[test]
+fn twenty_fourth_walk() {
+    let mut m = M::new(1, 1);
+    m.t[B + MODE] = 1;
+    for va in 0..23 {
+        assert_eq!(m.step([1, 0, va, 0, 0, 0]), Answer::Done);
+    }
+    assert_eq!(m.step([1, 0, 23, 0, 0, 0]), Answer::Refused(Why::TwentyFourthWalk));
+    assert_eq!(Why::TwentyFourthWalk.number(), 9);
+    let before = m.t.clone();
+    assert_eq!(m.step([1, 0, 7, 0, 0, 0]), Answer::Done);
+    assert_eq!(m.t, before);
+}
+
+#[test]
+fn jumps_and_branches() {
+    let j = isa::row(Op::J).opcode << 26 | 1;
+    assert_eq!(isa::jump_target(0x0FFF_FFFC, j), 0x1000_0004);
+    let mut m = M::new(1, 1);
+    m.t[B + PC] = 0x100;
+    assert_eq!(m.exec(itype(Op::Beq, 0, 0, 0xFFFF)), Answer::Done);
+    assert_eq!(m.t[B + PC], 0xFC);
+    // The jump itself: the last word of virtual page 0FFFF, held at page 0.
+    let mut m = M::new(1, 1);
+    m.t[B + MODE] = 1;
+    m.t[B + PC] = 0x0FFF_FFFC;
+    let w = Walk::new(0x0FFFF, 0, 0, 7, 0);
+    m.hold(w);
+    m.m[0xFFC..0x1000].copy_from_slice(&j.to_le_bytes());
+    assert_eq!(m.step([0, 0, w.first, w.base, 0, 0]), Answer::Done);
+    assert_eq!(m.t[B + PC], 0x1000_0004);
+}
+
+#[test]
+fn packed_walk() {
+    assert_eq!(Walk::new(0x12345, 3, 1, 5, 0).first, 0x1234_50CD);
+}
+
+#[test]
+fn eoi_clears_the_lowest() {
+    let mut m = M::new(1, 1);
+    m.t[B + ISR] = 1 << 5 | 1 << 9;
+    *m.gpr(1) = 0xFFFF_F000;
+    *m.gpr(2) = 77;
+    m.exec(itype(Op::Sw, 1, 2, 12));
+    assert_eq!(m.step([4, 0, 0, 0, 0, 0]), Answer::Done);
+    assert_eq!((m.t[B + ISR], m.t[B + EOIPENDING], m.t[B + EOI]), (1 << 9, 1 << 5, 77));
+    m.t[REDIRECT + 3] = 5 | 1 << 14;
+    m.t[REDIRECT + 4] = 6 | 1 << 14;
+    assert_eq!(m.step([6, 0, 0, 0, 0, 0]), Answer::Done);
+    assert_eq!((m.t[REDIRECT + 3], m.t[REDIRECT + 4], m.t[B + EOIPENDING]), (5, 6 | 1 << 14, 0));
+}
+
+#[test]
+fn made_machine() {
+    let m = M::new(4, 2);
+    assert_eq!(sound(&m.t, &m.m), Ok(()));
+    assert_eq!((m.t[CORES], m.t[PAGES]), (4, 2));
+    for k in 0..4 {
+        let b = block(k);
+        assert_eq!(m.t[b + RUNNING], (k == 0) as u32);
+        assert_eq!(m.t[b + APIC_ID], (k as u32) << 24);
+        assert_eq!((m.t[b + FREE], m.t[record(b, 1)], m.t[record(b, 30)], m.t[record(b, 31)]), (1, 2, 31, 0));
+    }
+    let mut t = vec![7; 288];
+    assert_eq!(make(0, &mut t, &[]), Err(1));
+    assert_eq!(make(5, &mut t, &[]), Err(1));
+    assert_eq!(make(1, &mut t, &[]), Err(2));
+    assert_eq!(make(1, &mut t, &[0; 4095]), Err(2));
+    assert_eq!(make(2, &mut t, &[0; 4097]), Err(2));
+    assert_eq!(make(1, &mut t, &vec![0; 4097 * PAGE]), Err(2));
+    assert_eq!(make(2, &mut t, &[0; 4096]), Err(3));
+    assert!(t.iter().all(|&w| w == 7));
+}
+
+#[test]
+fn run_counts_as_single_steps() {
+    let line = [11, 3, 1, 0, 0, 0];
+    let empty = [4, 0, 0, 0, 0, 0];
+    let schedule: Vec<u32> = [line, line, empty, line].concat();
+    let go = |schedule: &[u32], limit| {
+        let mut m = M::new(1, 1);
+        (run(true, &mut m.t, &mut m.m, schedule, limit), m.t[REFUSALS])
+    };
+    let refused = Stop::Refused(Why::BufferEmpty);
+    assert_eq!(go(&schedule, 9), (Ok(Run { accepted: 2, stop: refused }), 1));
+    assert_eq!(go(&schedule, 2), (Ok(Run { accepted: 2, stop: Stop::Limit }), 0));
+    assert_eq!(go(&schedule[..12], 2), (Ok(Run { accepted: 2, stop: Stop::End }), 0));
+    assert_eq!(go(&[], 0), (Ok(Run { accepted: 0, stop: Stop::End }), 0));
+    assert_eq!(go(&schedule, 0), (Ok(Run { accepted: 0, stop: Stop::Limit }), 0));
+    assert_eq!(go(&schedule[..7], 9).0, Err(11));
+    assert_eq!(go(&[0; 6150], 9).0, Err(11));
+    let full = line.repeat(1024);
+    assert_eq!(go(&full, 2000), (Ok(Run { accepted: 1024, stop: Stop::End }), 0));
+    let mut m = M::new(1, 1);
+    m.t[30] = 1;
+    assert_eq!(run(true, &mut m.t, &mut m.m, &schedule[..7], 9), Err(4));
+}
+
+#[test]
+fn refusal_count_stays_at_the_top() {
+    let mut m = M::new(1, 1);
+    m.t[REFUSALS] = 0xFFFF_FFFE;
+    for _ in 0..3 {
+        assert_eq!(m.step([15, 0, 0, 0, 0, 0]), Answer::Refused(Why::Kind));
+        assert_eq!(m.t[REFUSALS], 0xFFFF_FFFF);
+    }
+}
+
+#[test]
+fn wrong_turns() {
+    // Walks stay when a table entry changes in memory.
+    let mut m = M::new(1, 2);
+    let code = m.user();
+    m.t[B + PTO] = 0x1000;
+    m.m[0x1000..0x1004].copy_from_slice(&0x0000_1F00u32.to_le_bytes()); // first entry: page 1, present, all rights
+    assert_eq!(m.step([1, 0, 0, 0, 0, 0]), Answer::Done);
+    let walk = Walk::new(0, 0, 2, 7, 1);
+    assert_eq!(m.step([2, 0, walk.first, walk.base, 0, 0]), Answer::Refused(Why::NotAccessed));
+    assert_eq!(m.step([3, 0, walk.first, walk.base, 0, 0]), Answer::Done);
+    assert_eq!(word(&m.m, 0x1000), Some(0x1F80));
+    assert_eq!(m.step([2, 0, walk.first, walk.base, 7, 0]), Answer::Done);
+    m.m[0x1000..0x1004].fill(0);
+    assert!([code, walk, Walk::new(0, 0, 1, 7, 1)].iter().all(|w| oracle::machine::held(&m.t, B, *w)));
+
+    // A cas waits for an empty buffer; a failed one changes only its register.
+    let mut m = M::new(1, 1);
+    m.exec(itype(Op::Sw, 0, 0, 0x100));
+    assert_eq!(m.exec(rtype(Op::Cas, 1, 2, 3)), Answer::Refused(Why::BufferNotEmpty));
+    m.step([4, 0, 0, 0, 0, 0]);
+    *m.gpr(1) = 0x100;
+    *m.gpr(2) = 9;
+    *m.gpr(3) = 5;
+    assert_eq!(m.exec(rtype(Op::Cas, 1, 2, 3)), Answer::Done);
+    assert_eq!((*m.gpr(3), word(&m.m, 0x100), m.t[B + STORES]), (0, Some(0), 0));
+    assert_eq!(m.exec(rtype(Op::Cas, 1, 2, 3)), Answer::Done);
+    assert_eq!((*m.gpr(3), word(&m.m, 0x100)), (0, Some(9)));
+}
+
+#[test]
+fn misaligned_pc_and_faults() {
+    // A misaligned pc consults no walk, in user mode too.
+    let mut m = M::new(1, 1);
+    m.t[B + MODE] = 1;
+    m.t[B + PC] = 0xFFFF_F002;
+    assert_eq!(m.step([0, 0, 9, 9, 9, 9]), Answer::Interrupt(3));
+    assert_eq!((m.t[B + EPC], m.t[B + ECA], m.t[B + MODE]), (0xFFFF_F002, 8, 0));
+
+    // A store without the write right: the complete walk is no hit; the
+    // incomplete one faults and its page's walks go, last dropped first free.
+    let mut m = M::new(1, 1);
+    let code = m.user();
+    let read_only = Walk::new(2, 0, 0, 6, 0);
+    let incomplete = Walk::new(2, 0, 1, 7, 0); // its entry is word 2 of page 0: absent
+    m.hold(read_only);
+    m.hold(incomplete);
+    *m.gpr(1) = 0x2100;
+    m.m[0..4].copy_from_slice(&itype(Op::Sw, 1, 1, 0).to_le_bytes());
+    let data = |w: Walk| [0, 0, code.first, code.base, w.first, w.base];
+    assert_eq!(m.step(data(read_only)), Answer::Refused(Why::DataNoHit));
+    assert_eq!(m.step(data(incomplete)), Answer::Interrupt(5));
+    assert_eq!((m.t[B + EDATA], m.t[B + EPC], m.t[B + ECA]), (0x2100, 0x1000, 1 << 5));
+    assert_eq!((m.t[B + WALKS], m.t[B + FREE], m.t[record(B, 2)], m.t[record(B, 3)]), (1, 2, 3, 4));
+}
+
+#[test]
+fn reach_and_apart() {
+    use oracle::{apart, reach};
+    // Two user cores. Core 0: origin page 1, second level page 2, data page 3
+    // (write); core 1: origin page 4, nothing present.
+    let mut m = M::new(2, 6);
+    for (k, pto) in [(0, 1u32), (1, 4)] {
+        let b = block(k);
+        m.t[b + RUNNING] = 1;
+        m.t[b + MODE] = 1;
+        m.t[b + PTO] = pto << 12;
+    }
+    m.m[0x1FFC..0x2000].copy_from_slice(&0x0000_2800u32.to_le_bytes());
+    m.m[0x2004..0x2008].copy_from_slice(&0x0000_3900u32.to_le_bytes());
+    let mut map = vec![9; 6];
+    assert_eq!(reach(&m.t, &m.m, 1, &mut map), Ok(false));
+    assert_eq!(map, [0, 2, 2, 5, 0, 0]);
+    assert_eq!(reach(&m.t, &m.m, 2, &mut map), Ok(false));
+    assert_eq!(map, [0, 0, 0, 0, 2, 0]);
+    assert_eq!((apart(&m.t, &m.m, 1), apart(&m.t, &m.m, 2), apart(&m.t, &m.m, 3)), (Ok(true), Ok(true), Ok(true)));
+    assert_eq!((apart(&m.t, &m.m, 0), apart(&m.t, &m.m, 4)), (Err(13), Err(13)));
+    assert_eq!(reach(&m.t, &m.m, 0, &mut map[..5]), Err(12));
+    assert_eq!(reach(&m.t, &m.m, 0, &mut map), Err(13));
+
+    // The rest may read what the group writes, not the other way round.
+    let b1 = block(1);
+    let n = m.t[b1 + FREE];
+    m.t[b1 + FREE] = m.t[record(b1, n)];
+    m.t[b1 + WALKS] = n;
+    m.t[record(b1, n)] = 0;
+    m.t[record(b1, n) + 1] = Walk::new(0, 0, 0, 6, 3).first;
+    m.t[record(b1, n) + 2] = 3;
+    assert_eq!((apart(&m.t, &m.m, 1), apart(&m.t, &m.m, 2)), (Ok(true), Ok(false)));
+
+    // A core that doesn't run is in no rest, and in no group that is apart.
+    m.t[block(0) + RUNNING] = 0;
+    assert_eq!((apart(&m.t, &m.m, 1), apart(&m.t, &m.m, 2)), (Ok(false), Ok(true)));
+
+    // Table page beyond memory.
+    m.t[b1 + PTO] = 6 << 12;
+    assert_eq!(reach(&m.t, &m.m, 2, &mut map), Ok(true));
+    assert_eq!((map[3], apart(&m.t, &m.m, 2)), (1, Ok(false)));
+}
+
+#[test]
+fn run_program() {
+    use oracle::program::simulate;
+    let mut input = vec![1, 1];
+    input.resize(2 + 4096, 0);
+    let steps: [[u32; 6]; 3] = [[11, 3, 1, 0, 0, 0], [4, 0, 0, 0, 0, 0], [15, 0, 0, 0, 0, 0]];
+    for word in steps.iter().flatten() {
+        input.extend(word.to_le_bytes());
+    }
+    let example = "step answer\n0 done\n1 refused 6\n2 refused 5\nend 1 2\n";
+    assert_eq!(simulate(&input), example);
+    input.push(0);
+    assert_eq!(simulate(&input), example.replace("end", "cut\nend"));
+    assert_eq!(simulate(&input[..4098]), "step answer\nend 0 0\n");
+    // A misaligned pc by jr, then the interrupt.
+    let mut jump = vec![1, 1];
+    jump.extend(itype(Op::Addi, 0, 1, 6).to_le_bytes());
+    jump.extend(rtype(Op::Jr, 1, 0, 0).to_le_bytes());
+    jump.resize(2 + 4096, 0);
+    jump.extend([0; 72]);
+    assert_eq!(simulate(&jump), "step answer\n0 done\n1 done\n2 interrupt 3\nend 3 0\n");
+    for bad in [&[][..], &[1], &[0, 1], &[5, 1], &[1, 0], &[1, 9], &input[..4097]] {
+        assert_eq!(simulate(bad), "bad\n");
+    }
+}
