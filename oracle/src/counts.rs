@@ -14,7 +14,7 @@ pub const KINDS: [&str; 12] = [
 ];
 
 /// Events beside kinds, instructions and refusals.
-pub const EVENTS: [&str; 92] = [
+pub const EVENTS: [&str; 101] = [
     "fetch in system mode",
     "fetch through a walk",
     "misaligned pc",
@@ -107,6 +107,15 @@ pub const EVENTS: [&str; 92] = [
     "deliver to several APICs",
     "line raised",
     "line lowered",
+    "guard refuses though an external event is due",
+    "byte, half or cas at a port, misaligned, refused 6",
+    "hazard, misaligned, refused 6",
+    "cas with stores pending and its entry outside memory, refused 6",
+    "word access at a port, misaligned",
+    "interrupt spares a refusal 7",
+    "interrupt spares a refusal 8",
+    "j or jal whose pc + 4 carries into the upper four bits",
+    "jalr with rd and rs the same register",
 ];
 
 pub const RUNS: [&str; 5] = ["end", "limit spent", "a step's refusal", "refused 4", "refused 11"];
@@ -200,13 +209,44 @@ impl Counts {
         if let Some(kind) = KINDS.get(s[0] as usize) {
             self.add(if answer.accepted() { "kind" } else { "kind refused" }, kind);
         }
-        if !answer.accepted() {
+        if let Answer::Refused(why) = answer {
+            if s[0] == 0 && why.number() == 6 {
+                self.core_refused(t0, m0, s, why);
+            }
             return;
         }
         if s[0] == 0 {
             self.core(t0, m0, s, answer, t, m);
         } else {
             self.other(t0, m0, s, t, m);
+        }
+    }
+
+    /// A core step that a guard refuses.
+    fn core_refused(&mut self, t0: &[u32], m0: &[u8], s: &[u32; 6], why: Why) {
+        let b = block(s[1] as usize);
+        if t0[b + SR] & 2 != 0 && external_event(t0, b).is_some() {
+            self.event("guard refuses though an external event is due");
+        }
+        let Ok(Some(i)) = fetch(t0, m0, b, Walk { first: s[2], base: s[3] }) else {
+            return;
+        };
+        let Some(op) = isa::decode(i) else {
+            return;
+        };
+        let misaligned = effective_address(t0, b, op, i) % isa::width(op) != 0;
+        let data = Walk { first: s[4], base: s[5] };
+        match why {
+            Why::NarrowAtPort | Why::CasAtPort if misaligned => {
+                self.event("byte, half or cas at a port, misaligned, refused 6")
+            }
+            Why::Hazard if misaligned => self.event("hazard, misaligned, refused 6"),
+            Why::BufferNotEmpty if op == Op::Cas && t0[b + MODE] & 1 == 1 => {
+                if held(t0, b, data) && !data.complete() && data.pte(m0).is_none() {
+                    self.event("cas with stores pending and its entry outside memory, refused 6");
+                }
+            }
+            _ => {}
         }
     }
 
@@ -268,6 +308,17 @@ impl Counts {
         if answer != Answer::Done {
             if t[b + ECA] >> 5 & 1 == 1 {
                 self.fault(m0, data, false);
+            } else if accesses {
+                let ea = effective_address(t0, b, op, i);
+                let pma = if user { data.base << 12 | ea & 0xFFF } else { ea };
+                if !in_memory(m0.len(), pma, isa::width(op)) && !in_ports(pma) {
+                    self.event("interrupt spares a refusal 7");
+                } else if isa::store(op) && chain_length(t0, b, STORES) == 8 {
+                    self.event("interrupt spares a refusal 8");
+                }
+                if in_ports(pma) && pma % 4 != 0 {
+                    self.event("word access at a port, misaligned");
+                }
             }
             return;
         }
@@ -318,6 +369,12 @@ impl Counts {
             Op::Movg2s if t[b + MODE] & 1 == 1 => self.event("movg2s to user mode"),
             Op::Bltz | Op::Bgez | Op::Beq | Op::Bne | Op::Blez | Op::Bgtz => {
                 self.event(if isa::taken(op, rs, rt) { "branch taken" } else { "branch not taken" });
+            }
+            Op::J | Op::Jal if pc & 0x0FFF_FFFC == 0x0FFF_FFFC => {
+                self.event("j or jal whose pc + 4 carries into the upper four bits")
+            }
+            Op::Jalr if isa::rd(i) == isa::rs(i) && isa::rd(i) != 0 => {
+                self.event("jalr with rd and rs the same register")
             }
             Op::Addu | Op::Addiu | Op::Subu => {
                 let rtype = isa::compr(op);

@@ -1,0 +1,104 @@
+//! The committed vectors: made by their seed, true of the simulator, and
+//! broad enough.
+
+use oracle::counts::Counts;
+use oracle::machine::step;
+use oracle::soundness::*;
+use oracle::{generate, isa, run, sound, vectors, Answer, Stop};
+
+const STEPS: &[u8] = include_bytes!("../vectors/steps.bin");
+const GROUPS: &[u8] = include_bytes!("../vectors/groups.bin");
+const README: &str = include_str!("../README.md");
+
+#[test]
+fn the_seed_makes_the_files() {
+    let (_, seed) = vectors::read_steps(STEPS).unwrap();
+    assert!(vectors::write_steps(&generate::steps(seed), seed) == STEPS, "steps.bin");
+    let (_, seed) = vectors::read_groups(GROUPS).unwrap();
+    assert!(vectors::write_groups(&generate::groups(seed), seed) == GROUPS, "groups.bin");
+}
+
+/// Every answer and check sum; soundness is kept; a refused step changes the
+/// count alone, and refusal 4 not even that; the unchecked step agrees.
+#[test]
+fn steps_are_as_the_file_says() {
+    for v in vectors::read_steps(STEPS).unwrap().0 {
+        let (mut t, mut m) = (v.machine.tables.clone(), v.machine.memory.clone());
+        assert_eq!(vectors::checksum(&t, &m), v.sum);
+        assert_eq!(sound(&t, &m).map_err(|c| c as u8).err().unwrap_or(0), v.machine.damage);
+        for s in &v.steps {
+            let (t0, m0) = (t.clone(), m.clone());
+            let answer = step(true, &mut t, &mut m, &s.words);
+            assert_eq!((answer.code(), vectors::checksum(&t, &m)), (s.answer, s.sum));
+            if let Answer::Refused(why) = answer {
+                let mut expected = t0.clone();
+                if why.number() != 4 {
+                    expected[REFUSALS] = expected[REFUSALS].saturating_add(1);
+                }
+                assert_eq!((&t, &m), (&expected, &m0));
+            }
+            if v.machine.damage == 0 {
+                assert_eq!(sound(&t, &m), Ok(()));
+                let (mut t1, mut m1) = (t0, m0);
+                assert_eq!(step(false, &mut t1, &mut m1, &s.words), answer);
+                assert_eq!((&t1, &m1), (&t, &m));
+            }
+        }
+    }
+}
+
+/// Run equals that many single steps.
+#[test]
+fn runs_are_single_steps() {
+    for v in vectors::read_steps(STEPS).unwrap().0 {
+        let flat: Vec<u32> = v.steps.iter().flat_map(|s| s.words).take(v.run.words as usize).collect();
+        let (mut t, mut m) = (v.machine.tables.clone(), v.machine.memory.clone());
+        let result = run(true, &mut t, &mut m, &flat, v.run.limit);
+        assert_eq!(vectors::checksum(&t, &m), v.run.sum);
+        match result {
+            Err(number) => {
+                assert_eq!((number as u8, v.run.accepted, v.run.stop), (v.run.refusal, 0, 0));
+                assert_eq!(v.run.sum, v.sum);
+            }
+            Ok(r) => {
+                assert_eq!((v.run.refusal, r.accepted as u16), (0, v.run.accepted));
+                let accepted = r.accepted as usize;
+                let (stop, taken) = match r.stop {
+                    Stop::End => (0, accepted),
+                    Stop::Limit => (1, accepted),
+                    Stop::Refused(why) => (100 + why.number() as u8, accepted + 1),
+                };
+                assert_eq!(stop, v.run.stop);
+                let single = if taken == 0 { v.sum } else { v.steps[taken - 1].sum };
+                assert_eq!(single, v.run.sum);
+                assert!(v.steps[..accepted].iter().all(|s| s.answer < 100));
+            }
+        }
+    }
+}
+
+#[test]
+fn groups_are_as_the_file_says() {
+    for g in vectors::read_groups(GROUPS).unwrap().0 {
+        let asked: Vec<(u32, u16)> = g.questions.iter().map(|q| (q.group, q.map_length)).collect();
+        assert_eq!(vectors::answer_groups(g.machine.clone(), &asked), g);
+    }
+}
+
+/// Each thing that can occur does so twenty times, and README.md has the
+/// tables that `oracle counts` prints.
+#[test]
+fn counts() {
+    let mut counts = Counts::default();
+    vectors::read_steps(STEPS).unwrap().0.iter().for_each(|v| counts.vector(v));
+    for (section, name) in Counts::expected() {
+        let times = counts.get(section, &name);
+        assert!(times >= 20, "{section}: {name} occurs {times} times");
+    }
+    assert_eq!(counts.get("answer", "interrupt 0") + counts.get("answer", "refused 10"), 0);
+    assert_eq!(isa::ROWS.len(), 61);
+    assert!(README.contains(&counts.print()), "counts of steps.bin in README.md");
+    let mut counts = Counts::default();
+    vectors::read_groups(GROUPS).unwrap().0.iter().for_each(|g| counts.groups(g));
+    assert!(README.contains(&counts.print_groups()), "counts of groups.bin in README.md");
+}
