@@ -8,8 +8,17 @@ use std::collections::BTreeMap;
 use std::fmt::Write;
 
 pub const KINDS: [&str; 12] = [
-    "0 core", "1 tlb-create", "2 tlb-extend", "3 tlb-accessed", "4 store buffer", "5 apic-sendIPI",
-    "6 apic-sendEOI", "7 apic-initCore", "8 apic-startCore", "9 ioapic-sample", "10 ioapic-deliver",
+    "0 core",
+    "1 tlb-create",
+    "2 tlb-extend",
+    "3 tlb-accessed",
+    "4 store buffer",
+    "5 apic-sendIPI",
+    "6 apic-sendEOI",
+    "7 apic-initCore",
+    "8 apic-startCore",
+    "9 ioapic-sample",
+    "10 ioapic-deliver",
     "11 set line",
 ];
 

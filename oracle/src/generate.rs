@@ -24,7 +24,7 @@ impl Rng {
     pub fn new(seed: u64) -> Rng {
         Rng(seed)
     }
-    pub fn next(&mut self) -> u64 {
+    fn draw(&mut self) -> u64 {
         self.0 = self.0.wrapping_add(0x9E37_79B9_7F4A_7C15);
         let mut z = self.0;
         z = (z ^ z >> 30).wrapping_mul(0xBF58_476D_1CE4_E5B9);
@@ -32,7 +32,7 @@ impl Rng {
         z ^ z >> 31
     }
     pub fn word(&mut self) -> u32 {
-        (self.next() >> 32) as u32
+        (self.draw() >> 32) as u32
     }
     /// 0 to n - 1.
     pub fn below(&mut self, n: u32) -> u32 {
@@ -59,8 +59,26 @@ impl Rng {
     /// A register value near an edge, or any.
     fn value(&mut self) -> u32 {
         const EDGES: [u32; 20] = [
-            0, 1, 2, 3, 4, 5, 31, 32, 0x7FFF, 0x8000, 0xFFFF, 0x1_0000, 0x7FFF_FFFE, 0x7FFF_FFFF, 0x8000_0000,
-            0x8000_0001, 0xFFFF_8000, 0xFFFF_FFFD, 0xFFFF_FFFE, 0xFFFF_FFFF,
+            0,
+            1,
+            2,
+            3,
+            4,
+            5,
+            31,
+            32,
+            0x7FFF,
+            0x8000,
+            0xFFFF,
+            0x1_0000,
+            0x7FFF_FFFE,
+            0x7FFF_FFFF,
+            0x8000_0000,
+            0x8000_0001,
+            0xFFFF_8000,
+            0xFFFF_FFFD,
+            0xFFFF_FFFE,
+            0xFFFF_FFFF,
         ];
         match self.below(10) {
             0..=5 => self.pick(&EDGES),
@@ -107,12 +125,56 @@ impl<'a> Builder<'a> {
         let hot_page = rng.below(pages);
         let wild = rng.chance(22);
         let vectors = [0, 1, 2].map(|_| rng.pick(&[0, 1, 5, 9, 31, 32, 33, 64, 200, 254, 255]));
-        Builder { rng, counts, cores, pages, t, m, map: Vec::new(), first: 0, code: Vec::new(), hot, hot_page, wild, vectors }
+        Builder {
+            rng,
+            counts,
+            cores,
+            pages,
+            t,
+            m,
+            map: Vec::new(),
+            first: 0,
+            code: Vec::new(),
+            hot,
+            hot_page,
+            wild,
+            vectors,
+        }
     }
 
     fn machine(self) -> Machine {
         debug_assert_eq!(sound(&self.t, &self.m), Ok(()));
         Machine { cores: self.cores as u8, pages: self.pages as u8, damage: 0, tables: self.t, memory: self.m }
+    }
+
+    /// Adds a walk as the machine does, unless it is held.
+    fn hold(&mut self, b: usize, w: Walk) {
+        if held(&self.t, b, w) {
+            return;
+        }
+        let n = self.t[b + FREE];
+        let r = record(b, n);
+        self.t[b + FREE] = self.t[r];
+        self.t[r] = self.t[b + WALKS];
+        self.t[r + 1] = w.first;
+        self.t[r + 2] = w.base;
+        self.t[b + WALKS] = n;
+    }
+
+    /// Adds a pending store as the machine does.
+    fn pend(&mut self, b: usize, a: u32, value: u32, width: u32) {
+        let mut link = b + STORES;
+        while self.t[link] != 0 {
+            link = record(b, self.t[link]);
+        }
+        let n = self.t[b + FREE];
+        let r = record(b, n);
+        self.t[b + FREE] = self.t[r];
+        self.t[link] = n;
+        self.t[r] = 0;
+        self.t[r + 1] = a;
+        self.t[r + 2] = if width == 4 { value } else { value & ((1 << (8 * width)) - 1) };
+        self.t[r + 3] = width;
     }
 
     /// A page in memory, now and then one beyond or at the ports.
@@ -213,7 +275,7 @@ impl<'a> Builder<'a> {
     /// An offset in a page for a data access.
     fn offset(&mut self) -> u32 {
         match self.rng.below(10) {
-            0..=5 => (self.hot & !7) + self.rng.pick(&[0, 0, 1, 2, 3, 4, 4, 5, 6, 7, 8, 12]) & 0xFFF,
+            0..=5 => ((self.hot & !7) + self.rng.pick(&[0, 0, 1, 2, 3, 4, 4, 5, 6, 7, 8, 12])) & 0xFFF,
             6 => self.rng.pick(&[0xFFC, 0xFFE, 0xFFF, 0xFFD, 0xFF8]),
             7 => self.rng.pick(&[0x10, 0x11, 0x12, 0x13, 0x14]),
             _ => self.rng.below(0x1000),
@@ -342,7 +404,11 @@ impl<'a> Builder<'a> {
     fn instruction_of(&mut self, op: Op, b: usize, user: bool) -> u32 {
         let row = isa::row(op);
         let (mut rs, mut rt, mut rd) = (self.scratch(), self.scratch(), self.scratch());
-        let mut imm = if self.rng.chance(50) { self.rng.pick(&[0, 1, 2, 4, 0x7FFF, 0x8000, 0xFFFF]) } else { self.rng.word() & 0xFFFF };
+        let mut imm = if self.rng.chance(50) {
+            self.rng.pick(&[0, 1, 2, 4, 0x7FFF, 0x8000, 0xFFFF])
+        } else {
+            self.rng.word() & 0xFFFF
+        };
         let mut low = self.rng.below(32) << 6;
         match op {
             _ if isa::load(op) || isa::store(op) => {
@@ -471,7 +537,8 @@ impl<'a> Builder<'a> {
         if word(&self.m, 0) != Some(0) && !self.wild {
             words.push(word(&self.m, 0).unwrap_or(0)); // a table entry lies there
         }
-        let quiet = [Op::Addi, Op::Ori, Op::Mfhi, Op::Sra, Op::Slt, Op::Lui, Op::Mtlo, Op::Movs2g, Op::Flush, Op::Invlpg];
+        let quiet =
+            [Op::Addi, Op::Ori, Op::Mfhi, Op::Sra, Op::Slt, Op::Lui, Op::Mtlo, Op::Movs2g, Op::Flush, Op::Invlpg];
         let style = self.rng.below(10);
         if style < 5 {
             words.push(0b010000 << 26 | 1 << 16 | 3 << 11); // movs2g r1 epc
@@ -521,7 +588,9 @@ impl<'a> Builder<'a> {
                 let base = self.t[b + isa::rs(i)];
                 let off = base.wrapping_add(near) & (isa::width(op) - 1);
                 let rt = self.scratch();
-                words.push(isa::row(op).opcode << 26 | (isa::rs(i) as u32) << 21 | rt << 16 | near.wrapping_sub(off) & 0xFFFF);
+                words.push(
+                    isa::row(op).opcode << 26 | (isa::rs(i) as u32) << 21 | rt << 16 | near.wrapping_sub(off) & 0xFFFF,
+                );
             }
         }
         if !self.wild || self.rng.chance(50) {
@@ -606,14 +675,10 @@ impl<'a> Builder<'a> {
         let b = block(k);
         let full = self.rng.below(3);
         let count = self.rng.pick(&[0, 0, 0, 0, 1, 1, 2, 3, 5, 8 - full]);
-        let mut link = b + STORES;
         for _ in 0..count {
             let width = self.rng.pick(&[1, 2, 4, 4]);
-            let mut a = if self.rng.chance(75) {
-                self.rng.below(self.pages) << 12 | self.offset()
-            } else {
-                self.port()
-            };
+            let mut a =
+                if self.rng.chance(75) { self.rng.below(self.pages) << 12 | self.offset() } else { self.port() };
             a &= !(width - 1);
             if in_ports(a) && width < 4 && self.rng.chance(75) {
                 a = self.rng.below(self.pages) << 12 | self.offset() & !(width - 1);
@@ -626,15 +691,7 @@ impl<'a> Builder<'a> {
                 _ if in_ports(a) => self.port_value(),
                 _ => self.rng.value(),
             };
-            let n = self.t[b + FREE];
-            let r = record(b, n);
-            self.t[b + FREE] = self.t[r];
-            self.t[link] = n;
-            self.t[r] = 0;
-            self.t[r + 1] = a;
-            self.t[r + 2] = if width == 4 { value } else { value & ((1 << (8 * width)) - 1) };
-            self.t[r + 3] = width;
-            link = r;
+            self.pend(b, a, value, width);
         }
     }
 
@@ -670,17 +727,7 @@ impl<'a> Builder<'a> {
             };
             let rights = if self.rng.chance(if self.wild { 50 } else { 80 }) { 7 } else { self.rng.below(8) };
             let asid = if self.rng.chance(90) { space } else { self.rng.below(64) };
-            let w = Walk::new(va, asid, level, rights, base);
-            if held(&self.t, b, w) {
-                continue;
-            }
-            let n = self.t[b + FREE];
-            let r = record(b, n);
-            self.t[b + FREE] = self.t[r];
-            self.t[r] = self.t[b + WALKS];
-            self.t[r + 1] = w.first;
-            self.t[r + 2] = w.base;
-            self.t[b + WALKS] = n;
+            self.hold(b, Walk::new(va, asid, level, rights, base));
         }
         if self.rng.chance(8) {
             self.shuffle_free(b);
@@ -815,8 +862,7 @@ fn some_walk(rng: &mut Rng, held: &[Walk]) -> Walk {
 
 /// One that matches a page and rights; complete ones are preferred.
 fn matching(rng: &mut Rng, t: &[u32], b: usize, va: u32, rights: u32) -> Option<Walk> {
-    let hits: Vec<Walk> =
-        walks_of(t, b).into_iter().filter(|w| w.hit(va, t[b + ASID] & 63, rights)).collect();
+    let hits: Vec<Walk> = walks_of(t, b).into_iter().filter(|w| w.hit(va, t[b + ASID] & 63, rights)).collect();
     let complete: Vec<Walk> = hits.iter().copied().filter(|w| w.complete()).collect();
     if !complete.is_empty() && rng.chance(80) {
         Some(rng.pick(&complete))
@@ -830,10 +876,8 @@ fn matching(rng: &mut Rng, t: &[u32], b: usize, va: u32, rights: u32) -> Option<
 /// The tlb step that brings a translation of va forward.
 fn forward(rng: &mut Rng, t: &[u32], m: &[u8], k: usize, va: u32) -> [u32; 6] {
     let b = block(k);
-    let open: Vec<Walk> = walks_of(t, b)
-        .into_iter()
-        .filter(|w| w.va() == va && w.asid() == t[b + ASID] & 63 && !w.complete())
-        .collect();
+    let open: Vec<Walk> =
+        walks_of(t, b).into_iter().filter(|w| w.va() == va && w.asid() == t[b + ASID] & 63 && !w.complete()).collect();
     let Some(w) = open.iter().copied().min_by_key(|w| w.level()) else {
         return [1, k as u32, va, 0, 0, 0];
     };
@@ -1109,14 +1153,24 @@ fn crossed(rng: &mut Rng, counts: &Counts) -> (Machine, Vec<[u32; 6]>) {
     const T: usize = 32; // block of core 0
     let pages = 1 + rng.below(2);
     let mut odds = vec![rng.pick(&ODDS)];
-    let mut ops: &[Op] = &[
-        Op::Lw, Op::Lw, Op::Lh, Op::Lhu, Op::Lb, Op::Lbu, Op::Sw, Op::Sw, Op::Sh, Op::Sb, Op::Cas, Op::Cas, Op::Cas,
-    ];
+    let mut ops: &[Op] =
+        &[Op::Lw, Op::Lw, Op::Lh, Op::Lhu, Op::Lb, Op::Lbu, Op::Sw, Op::Sw, Op::Sh, Op::Sb, Op::Cas, Op::Cas, Op::Cas];
     if rng.chance(45) {
         let (met, by) = rng.pick(&MEETINGS);
         (odds, ops) = (met.to_vec(), by);
     } else if rng.chance(18) {
-        ops = &[Op::Mfence, Op::Mfence, Op::Eret, Op::Flush, Op::Invlpg, Op::Movg2s, Op::Movs2g, Op::Sysc, Op::Addu, Op::Subu];
+        ops = &[
+            Op::Mfence,
+            Op::Mfence,
+            Op::Eret,
+            Op::Flush,
+            Op::Invlpg,
+            Op::Movg2s,
+            Op::Movs2g,
+            Op::Sysc,
+            Op::Addu,
+            Op::Subu,
+        ];
         odds.push(rng.pick(&ODDS));
     } else {
         for _ in 0..rng.pick(&[0, 1, 1, 1, 2]) {
@@ -1124,7 +1178,13 @@ fn crossed(rng: &mut Rng, counts: &Counts) -> (Machine, Vec<[u32; 6]>) {
         }
     }
     let is = |odd: Odd| odds.contains(&odd);
-    let user = rng.chance(if odds.iter().any(|o| (DataRights as u8..=FetchNotHeld as u8).contains(&(*o as u8))) || is(LastWord) { 97 } else { 50 });
+    let user = rng.chance(
+        if odds.iter().any(|o| (DataRights as u8..=FetchNotHeld as u8).contains(&(*o as u8))) || is(LastWord) {
+            97
+        } else {
+            50
+        },
+    );
     let mut b = Builder::new(rng, counts, 1, pages);
     b.t[T + MODE] = user as u32;
     b.t[T + SR] = if is(Event) || is(EventHidden) { 0x82 } else { b.rng.pick(&[0, 0x80, 0x80]) };
@@ -1144,13 +1204,23 @@ fn crossed(rng: &mut Rng, counts: &Counts) -> (Machine, Vec<[u32; 6]>) {
     } else if is(IoapicPort) {
         0xFFFF_E000 + b.rng.pick(&[0, 4])
     } else if is(PortEnd) {
-        b.rng.pick(&[0xFFFF_F07C, 0xFFFF_F07E, 0xFFFF_F080, 0xFFFF_E004, 0xFFFF_E006, 0xFFFF_E008, 0xFFFF_DFFC, 0xFFFF_EFFC, 0xFFFF_FFFC])
+        b.rng.pick(&[
+            0xFFFF_F07C,
+            0xFFFF_F07E,
+            0xFFFF_F080,
+            0xFFFF_E004,
+            0xFFFF_E006,
+            0xFFFF_E008,
+            0xFFFF_DFFC,
+            0xFFFF_EFFC,
+            0xFFFF_FFFC,
+        ])
     } else if is(Beyond) {
         end + b.rng.pick(&[0, 0, 4, 0x1000])
     } else if is(MemoryEnd) {
         end - b.rng.pick(&[width, 4, 8])
     } else {
-        b.rng.below(pages) << 12 | 0x100 + b.rng.below(8)
+        b.rng.below(pages) << 12 | (0x100 + b.rng.below(8))
     };
     target &= !(width - 1);
     if is(Misaligned) {
@@ -1196,14 +1266,8 @@ fn crossed(rng: &mut Rng, counts: &Counts) -> (Machine, Vec<[u32; 6]>) {
     for w in [fetch, data, others[0], others[1]] {
         let absent = w == fetch && is(FetchNotHeld) || w == data && is(DataNotHeld);
         let wanted = w == fetch || w == data || b.rng.chance(40);
-        if user && wanted && !absent && !held(&b.t, T, w) {
-            let n = b.t[T + FREE];
-            let r = record(T, n);
-            b.t[T + FREE] = b.t[r];
-            b.t[r] = b.t[T + WALKS];
-            b.t[r + 1] = w.first;
-            b.t[r + 2] = w.base;
-            b.t[T + WALKS] = n;
+        if user && wanted && !absent {
+            b.hold(T, w);
         }
     }
 
@@ -1224,21 +1288,12 @@ fn crossed(rng: &mut Rng, counts: &Counts) -> (Machine, Vec<[u32; 6]>) {
     while is(BufferFull) && stores.len() < 8 {
         stores.push((b.rng.pick(&[target & !3, 0x44, 0xFFFF_F000]), 4));
     }
-    let mut link = T + STORES;
     for (mut a, width) in stores {
         if !in_memory(b.m.len(), a, width) && !in_ports(a) {
             a = 0x80;
         }
         let value = b.rng.value();
-        let n = b.t[T + FREE];
-        let r = record(T, n);
-        b.t[T + FREE] = b.t[r];
-        b.t[link] = n;
-        b.t[r] = 0;
-        b.t[r + 1] = a;
-        b.t[r + 2] = if width == 4 { value } else { value & ((1 << (8 * width)) - 1) };
-        b.t[r + 3] = width;
-        link = r;
+        b.pend(T, a, value, width);
     }
 
     // The instruction: register 8 holds the address or nearly so.
@@ -1269,7 +1324,12 @@ fn crossed(rng: &mut Rng, counts: &Counts) -> (Machine, Vec<[u32; 6]>) {
     let go = [0, 0, fetch.first, fetch.base, data.first, data.base];
     let mut schedule = vec![go];
     if b.rng.chance(40) {
-        schedule.push(b.rng.pick(&[[4, 0, 0, 0, 0, 0], go, [2, 0, data.first, data.base, 0, 0], [3, 0, data.first, data.base, 0, 0]]));
+        schedule.push(b.rng.pick(&[
+            [4, 0, 0, 0, 0, 0],
+            go,
+            [2, 0, data.first, data.base, 0, 0],
+            [3, 0, data.first, data.base, 0, 0],
+        ]));
     }
     (b.machine(), schedule)
 }
@@ -1301,31 +1361,20 @@ fn small(rng: &mut Rng, stores: u32, walks: u32) -> Machine {
     let mut builder = Builder::new(rng, &counts, cores, pages);
     let k = builder.rng.below(cores as u32) as usize;
     let b = block(k);
-    let mut link = b + STORES;
     for i in 0..stores {
-        let n = builder.t[b + FREE];
-        let r = record(b, n);
-        builder.t[b + FREE] = builder.t[r];
-        builder.t[link] = n;
         let width = builder.rng.pick(&[1, 2, 4]);
-        builder.t[r] = 0;
-        builder.t[r + 1] = match builder.rng.below(4) {
+        let a = match builder.rng.below(4) {
             0 => 0xFFFF_F000 + 4 * builder.rng.below(32),
             1 => (pages << 12) - width,
             _ => 0x100 + 4 * i,
         };
-        builder.t[r + 2] = builder.rng.below(256);
-        builder.t[r + 3] = width;
-        link = r;
+        let value = builder.rng.below(256);
+        builder.pend(b, a, value, width);
     }
     for i in 0..walks {
-        let n = builder.t[b + FREE];
-        let r = record(b, n);
-        builder.t[b + FREE] = builder.t[r];
-        builder.t[r] = builder.t[b + WALKS];
-        builder.t[r + 1] = Walk::new(i, builder.rng.below(64), builder.rng.below(3), builder.rng.below(8), 0).first;
-        builder.t[r + 2] = builder.rng.pick(&[0, 1, 0xFFFFF, 0x1000]);
-        builder.t[b + WALKS] = n;
+        let (asid, level, rights) = (builder.rng.below(64), builder.rng.below(3), builder.rng.below(8));
+        let base = builder.rng.pick(&[0, 1, 0xFFFFF, 0x1000]);
+        builder.hold(b, Walk::new(i, asid, level, rights, base));
     }
     builder.machine()
 }
@@ -1436,7 +1485,16 @@ fn damaged(rng: &mut Rng, clause: Clause) -> Option<Machine> {
         StorePlace => {
             let width = t[store + 3];
             let end = t[PAGES] << 12;
-            t[store + 1] = rng.pick(&[end, end + width, 0xFFFF_F080, 0xFFFF_E008, 0xFFFF_DFFC, 0xFFFF_EFFC, 0xFFFF_FFFC, 0x0100_0000]);
+            t[store + 1] = rng.pick(&[
+                end,
+                end + width,
+                0xFFFF_F080,
+                0xFFFF_E008,
+                0xFFFF_DFFC,
+                0xFFFF_EFFC,
+                0xFFFF_FFFC,
+                0x0100_0000,
+            ]);
         }
         WalkLevel => t[walk + 1] |= 3 << 3,
         WalkBit5 => t[walk + 1] |= 1 << 5,
@@ -1516,7 +1574,8 @@ fn group_machine(rng: &mut Rng) -> Machine {
         };
         b.t[block + RUNNING] = b.rng.chance(92) as u32;
         b.t[block + MODE] = if b.rng.chance(95) { b.rng.pick(&[1, 1, 3]) } else { b.rng.pick(&[0, 2]) };
-        b.t[block + PTO] = if mischief && b.rng.chance(8) { b.page() } else { origin } << 12 | b.rng.pick(&[0, 0, 0xFFF]);
+        b.t[block + PTO] =
+            if mischief && b.rng.chance(8) { b.page() } else { origin } << 12 | b.rng.pick(&[0, 0, 0xFFF]);
         for _ in 0..b.rng.below(4) {
             // A first-level entry. With one table page both levels share it,
             // so its entries must name itself or data read as entries.
@@ -1544,26 +1603,14 @@ fn group_machine(rng: &mut Rng) -> Machine {
                 _ => data(&mut b),
             };
             let w = Walk::new(b.rng.below(1 << 20), i, level, b.rng.below(8), base);
-            let n = b.t[block + FREE];
-            let r = record(block, n);
-            b.t[block + FREE] = b.t[r];
-            b.t[r] = b.t[block + WALKS];
-            b.t[r + 1] = w.first;
-            b.t[r + 2] = w.base;
-            b.t[block + WALKS] = n;
+            b.hold(block, w);
         }
         if b.rng.chance(40) {
             let page = data(&mut b);
             let a = page << 12 | b.rng.pick(&[0, 0xFFC, 0x100]);
             if in_memory(b.m.len(), a, 4) || in_ports(a) {
-                let n = b.t[block + FREE];
-                let r = record(block, n);
-                b.t[block + FREE] = b.t[r];
-                b.t[r] = 0;
-                b.t[r + 1] = a;
-                b.t[r + 2] = b.rng.value();
-                b.t[r + 3] = 4;
-                b.t[block + STORES] = n;
+                let value = b.rng.value();
+                b.pend(block, a, value, 4);
             }
         }
     }

@@ -765,7 +765,15 @@ enum Translation {
 /// The guards on a consulted walk: held, a hit, and complete unless it
 /// faults (definition 19). Errors in the order given: not held, no hit,
 /// incomplete without fault, entry outside memory.
-fn translate(t: &[u32], m: &[u8], b: usize, w: Walk, va: u32, rights: u32, errors: [Why; 4]) -> Result<Translation, Why> {
+fn translate(
+    t: &[u32],
+    m: &[u8],
+    b: usize,
+    w: Walk,
+    va: u32,
+    rights: u32,
+    errors: [Why; 4],
+) -> Result<Translation, Why> {
     if !held(t, b, w) {
         return Err(errors[0]);
     }
