@@ -1,0 +1,228 @@
+-- The instructions by their mnemonics: predicates on an instruction are lists of names, as the report prints them.
+-- Assumes nothing.
+use mathlib.Core.Bool.{Bool, true, false, _||_}
+use mathlib.Core.List.{List, [], _∷_, _++_, map}
+use Prim.Native.Nat.{ℕ}
+use lib.Dec.{eqb}
+use Rattle.decode.specs.declared.Instruction.{Instruction}
+use Rattle.decode.specs.declared.Instruction.the-variants.{Illegal}
+use Rattle.decode.specs.declared.Load.{Load}
+use Rattle.decode.specs.declared.Load.the-variants.{Lb, Lh, Lw, Lbu, Lhu}
+use Rattle.decode.specs.declared.Store.{Store}
+use Rattle.decode.specs.declared.Store.the-variants.{Sb, Sh, Sw}
+use Rattle.decode.specs.declared.Immediate.{Immediate}
+use Rattle.decode.specs.declared.Immediate.the-variants.{Addi, Addiu, Slti, Sltiu, Andi, Ori, Xori, Lui}
+use Rattle.decode.specs.declared.Branch.{Branch}
+use Rattle.decode.specs.declared.Branch.the-variants.{Bltz, Bgez, Beq, Bne, Blez, Bgtz}
+use Rattle.decode.specs.declared.Jump.{Jump}
+use Rattle.decode.specs.declared.Jump.the-variants.{J, Jal, Jr, Jalr}
+use Rattle.decode.specs.declared.Shift.{Shift}
+use Rattle.decode.specs.declared.Shift.the-variants.{Sll, Srl, Sra, Sllv, Srlv, Srav}
+use Rattle.decode.specs.declared.Multiply.{Multiply}
+use Rattle.decode.specs.declared.Multiply.the-variants.{Mult, Multu, Madd, Maddu, Mul, Msub, Msubu}
+use Rattle.decode.specs.declared.Move.{Move}
+use Rattle.decode.specs.declared.Move.the-variants.{Mfhi, Mthi, Mflo, Mtlo, Movg2s, Movs2g}
+use Rattle.decode.specs.declared.Alu.{Alu}
+use Rattle.decode.specs.declared.Alu.the-variants.{Add, Addu, Sub, Subu, And, Or, Xor, Nor, Slt, Sltu}
+use Rattle.decode.specs.declared.System.{System}
+use Rattle.decode.specs.declared.System.the-variants.{Sysc, Cas, Mfence, Flush, Invlpg, Eret}
+use Rattle.decode.specs.Table.{Row, table1, table2, table3, table4}
+
+-- ---- the place of an instruction in tables 1 to 4, counted from 0 (numbered, in proofs/Numbers, says that it is)
+
+abbrev loadNumber : Load → ℕ
+loadNumber Lb = 0
+loadNumber Lh = 1
+loadNumber Lw = 2
+loadNumber Lbu = 3
+loadNumber Lhu = 4
+
+abbrev storeNumber : Store → ℕ
+storeNumber Sb = 5
+storeNumber Sh = 6
+storeNumber Sw = 7
+
+abbrev immediateNumber : Immediate → ℕ
+immediateNumber Addi = 8
+immediateNumber Addiu = 9
+immediateNumber Slti = 10
+immediateNumber Sltiu = 11
+immediateNumber Andi = 12
+immediateNumber Ori = 13
+immediateNumber Xori = 14
+immediateNumber Lui = 15
+
+abbrev branchNumber : Branch → ℕ
+branchNumber Bltz = 16
+branchNumber Bgez = 17
+branchNumber Beq = 18
+branchNumber Bne = 19
+branchNumber Blez = 20
+branchNumber Bgtz = 21
+
+abbrev jumpNumber : Jump → ℕ
+jumpNumber J = 22
+jumpNumber Jal = 23
+jumpNumber Jr = 45
+jumpNumber Jalr = 46
+
+abbrev shiftNumber : Shift → ℕ
+shiftNumber Sll = 24
+shiftNumber Srl = 25
+shiftNumber Sra = 26
+shiftNumber Sllv = 27
+shiftNumber Srlv = 28
+shiftNumber Srav = 29
+
+abbrev multiplyNumber : Multiply → ℕ
+multiplyNumber Mult = 33
+multiplyNumber Multu = 34
+multiplyNumber Madd = 53
+multiplyNumber Maddu = 54
+multiplyNumber Mul = 55
+multiplyNumber Msub = 56
+multiplyNumber Msubu = 57
+
+abbrev moveNumber : Move → ℕ
+moveNumber Mfhi = 52
+moveNumber Mthi = 30
+moveNumber Mflo = 31
+moveNumber Mtlo = 32
+moveNumber Movg2s = 59
+moveNumber Movs2g = 60
+
+abbrev aluNumber : Alu → ℕ
+aluNumber Add = 35
+aluNumber Addu = 36
+aluNumber Sub = 37
+aluNumber Subu = 38
+aluNumber And = 39
+aluNumber Or = 40
+aluNumber Xor = 41
+aluNumber Nor = 42
+aluNumber Slt = 43
+aluNumber Sltu = 44
+
+abbrev systemNumber : System → ℕ
+systemNumber Sysc = 47
+systemNumber Cas = 48
+systemNumber Mfence = 49
+systemNumber Flush = 50
+systemNumber Invlpg = 51
+systemNumber Eret = 58
+
+abbrev pub number : Instruction → ℕ
+number (Instruction.Load l) = loadNumber l
+number (Instruction.Store s) = storeNumber s
+number (Instruction.Immediate i) = immediateNumber i
+number (Instruction.Branch b) = branchNumber b
+number (Instruction.Jump j) = jumpNumber j
+number (Instruction.Shift s) = shiftNumber s
+number (Instruction.Multiply m) = multiplyNumber m
+number (Instruction.Move m) = moveNumber m
+number (Instruction.Alu a) = aluNumber a
+number (Instruction.System s) = systemNumber s
+number Illegal = 61
+
+-- an instruction is one of those listed
+abbrev pub among : Instruction → List Instruction → Bool
+among i [] = false
+among i (j ∷ l) = eqb (number i) (number j) || among i l
+
+-- ---- types (definition 23): table 1 is of I-type, table 2 of J-type, tables 3 and 4 are of R-type
+
+abbrev names : List Row → List Instruction
+names rows = map (λ (r : Row). r .name) rows
+
+unfoldable pub itype : Instruction → Bool
+itype i = among i (names table1)
+
+unfoldable pub jtype : Instruction → Bool
+jtype i = among i (names table2)
+
+unfoldable pub rtype : Instruction → Bool
+rtype i = among i (names (table3 ++ table4))
+
+-- ---- classes of instructions
+
+-- definition 25
+unfoldable pub ill : Instruction → Bool
+ill i = among i (Illegal ∷ [])
+
+-- definition 26, of the rows that match
+unfoldable pub compi : Instruction → Bool
+compi i = among i (Instruction.Immediate Addi ∷ Instruction.Immediate Addiu ∷ Instruction.Immediate Slti ∷ Instruction.Immediate Sltiu ∷ Instruction.Immediate Andi ∷ Instruction.Immediate Ori ∷ Instruction.Immediate Xori ∷ Instruction.Immediate Lui ∷ [])
+
+unfoldable pub compr : Instruction → Bool
+compr i = among i (Instruction.Alu Add ∷ Instruction.Alu Addu ∷ Instruction.Alu Sub ∷ Instruction.Alu Subu ∷ Instruction.Alu And ∷ Instruction.Alu Or ∷ Instruction.Alu Xor ∷ Instruction.Alu Nor ∷ Instruction.Alu Slt ∷ Instruction.Alu Sltu ∷ [])
+
+unfoldable pub alu : Instruction → Bool
+alu i = compi i || compr i
+
+-- definition 32
+unfoldable pub mulacc : Instruction → Bool
+mulacc i = among i (Instruction.Multiply Mult ∷ Instruction.Multiply Multu ∷ Instruction.Multiply Madd ∷ Instruction.Multiply Maddu ∷ Instruction.Multiply Msub ∷ Instruction.Multiply Msubu ∷ [])
+
+-- definition 33
+unfoldable pub b : Instruction → Bool
+b i = among i (Instruction.Branch Bltz ∷ Instruction.Branch Bgez ∷ Instruction.Branch Beq ∷ Instruction.Branch Bne ∷ Instruction.Branch Blez ∷ Instruction.Branch Bgtz ∷ [])
+
+unfoldable pub jump : Instruction → Bool
+jump i = among i (Instruction.Jump J ∷ Instruction.Jump Jal ∷ Instruction.Jump Jr ∷ Instruction.Jump Jalr ∷ [])
+
+-- definition 37
+unfoldable pub su : Instruction → Bool
+su i = among i (Instruction.Shift Sll ∷ Instruction.Shift Srl ∷ Instruction.Shift Sra ∷ Instruction.Shift Sllv ∷ Instruction.Shift Srlv ∷ Instruction.Shift Srav ∷ [])
+
+-- definition 42
+unfoldable pub load : Instruction → Bool
+load i = among i (Instruction.Load Lw ∷ Instruction.Load Lhu ∷ Instruction.Load Lh ∷ Instruction.Load Lbu ∷ Instruction.Load Lb ∷ [])
+
+unfoldable pub store : Instruction → Bool
+store i = among i (Instruction.Store Sw ∷ Instruction.Store Sh ∷ Instruction.Store Sb ∷ [])
+
+-- single instructions that definitions name
+unfoldable pub cas : Instruction → Bool
+cas i = among i (Instruction.System Cas ∷ [])
+
+unfoldable pub mfence : Instruction → Bool
+mfence i = among i (Instruction.System Mfence ∷ [])
+
+unfoldable pub flush : Instruction → Bool
+flush i = among i (Instruction.System Flush ∷ [])
+
+unfoldable pub invlpg : Instruction → Bool
+invlpg i = among i (Instruction.System Invlpg ∷ [])
+
+unfoldable pub eret : Instruction → Bool
+eret i = among i (Instruction.System Eret ∷ [])
+
+unfoldable pub sysc : Instruction → Bool
+sysc i = among i (Instruction.System Sysc ∷ [])
+
+unfoldable pub jal : Instruction → Bool
+jal i = among i (Instruction.Jump Jal ∷ [])
+
+unfoldable pub jalr : Instruction → Bool
+jalr i = among i (Instruction.Jump Jalr ∷ [])
+
+unfoldable pub movg2s : Instruction → Bool
+movg2s i = among i (Instruction.Move Movg2s ∷ [])
+
+unfoldable pub movs2g : Instruction → Bool
+movs2g i = among i (Instruction.Move Movs2g ∷ [])
+
+unfoldable pub mfhi : Instruction → Bool
+mfhi i = among i (Instruction.Move Mfhi ∷ [])
+
+unfoldable pub mflo : Instruction → Bool
+mflo i = among i (Instruction.Move Mflo ∷ [])
+
+unfoldable pub mthi : Instruction → Bool
+mthi i = among i (Instruction.Move Mthi ∷ [])
+
+unfoldable pub mtlo : Instruction → Bool
+mtlo i = among i (Instruction.Move Mtlo ∷ [])
+
+unfoldable pub mul : Instruction → Bool
+mul i = among i (Instruction.Multiply Mul ∷ [])

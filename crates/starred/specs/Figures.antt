@@ -1,0 +1,75 @@
+-- The starred figures at the edges: of each the value by the definitions, and the value that is printed.
+-- Assumes nothing.
+use mathlib.Core.Path.{_≡_, refl}
+use mathlib.Core.Bool.{Bool, true, false}
+use mathlib.Core.List.{List, [], _∷_, map}
+use Prim.Native.Nat.{ℕ, _+_, _*_, _^_}
+use lib.ListN.{getD, set, replicate}
+use Rattle.word.specs.Word.{if_then_else_, signed, sxt}
+use Rattle.decode.specs.Table.{decoded, rowOf}
+use Rattle.decode.specs.Mnemonics.{itype, rtype, compi, compr, alu, mulacc, b, jump, su, load, cas, jal, jalr, movg2s, movs2g, mfhi, mflo, mthi, mtlo, mul}
+use Rattle.units.specs.Alu.{alures, ovf, alucon}
+use Rattle.units.specs.Multiplication.{mures}
+use Rattle.units.specs.Branch.{bcres}
+use Rattle.isa.specs.declared.registers.Registers.{Registers}
+use Rattle.isa.specs.Core.{deltaInstr, gprw, rdes, cad, gprdin}
+
+pub record Figure : Type 0 where
+  pub found : ℕ
+  pub printed : ℕ
+
+abbrev figure : ℕ → ℕ → Figure
+figure x y = record { found = x; printed = y }
+
+abbrev flag : Bool → ℕ
+flag t = if t then 1 else 0
+
+-- a core at a pc, with general registers 1 and 2
+abbrev core : ℕ → ℕ → ℕ → Registers
+core at x y = record { gpr = set (set (replicate 32 0) 1 x) 2 y; spr = replicate 32 0; pc = at; hi = 0; lo = 0 }
+
+-- an instruction word: opcode, rs, rt, and the lower half
+abbrev wordOf : ℕ → ℕ → ℕ → ℕ → ℕ
+wordOf o s t low = o * 2 ^ 26 + s * 2 ^ 21 + t * 2 ^ 16 + low
+
+-- general register 3 after an instruction
+abbrev result : ℕ → ℕ
+result w = getD (deltaInstr (core 0 0 0) w 0 .gpr) 3 0
+
+-- the core after a multiplication of x by y
+abbrev multiplied : ℕ → ℕ → ℕ → Registers
+multiplied x y w = deltaInstr (core 0 x y) w 0
+
+abbrev pub figures : List Figure
+figures =
+    -- 7FFFFFFF + 1 = 80000000; control 0001 overflows, 0000 doesn't
+    figure (alures 0x7fffffff 1 0b0001 false) 0x80000000 ∷
+    figure (flag (ovf 0x7fffffff 1 0b0001)) 1 ∷
+    figure (alures 0x7fffffff 1 0b0000 false) 0x80000000 ∷
+    figure (flag (ovf 0x7fffffff 1 0b0000)) 0 ∷
+    -- FFFFFFFF + 1 = 0, no overflow under either
+    figure (alures 0xffffffff 1 0b0001 false) 0 ∷
+    figure (flag (ovf 0xffffffff 1 0b0001)) 0 ∷
+    figure (alures 0xffffffff 1 0b0000 false) 0 ∷
+    figure (flag (ovf 0xffffffff 1 0b0000)) 0 ∷
+    -- register 0, immediate FFFF: sltiu gives 1, slti 0
+    figure (result (wordOf 0b001011 0 3 0xffff)) 1 ∷
+    figure (result (wordOf 0b001010 0 3 0xffff)) 0 ∷
+    -- FFFFFFFF by FFFFFFFF: mult HI 0, LO 1
+    figure (multiplied 0xffffffff 0xffffffff (wordOf 0 1 2 0b011000) .hi) 0 ∷
+    figure (multiplied 0xffffffff 0xffffffff (wordOf 0 1 2 0b011000) .lo) 1 ∷
+    -- multu HI FFFFFFFE, LO 1
+    figure (multiplied 0xffffffff 0xffffffff (wordOf 0 1 2 0b011001) .hi) 0xfffffffe ∷
+    figure (multiplied 0xffffffff 0xffffffff (wordOf 0 1 2 0b011001) .lo) 1 ∷
+    -- msub of 1 by 1 from 0: both FFFFFFFF
+    figure (multiplied 1 1 (wordOf 0b011100 1 2 0b000100) .hi) 0xffffffff ∷
+    figure (multiplied 1 1 (wordOf 0b011100 1 2 0b000100) .lo) 0xffffffff ∷
+    -- j with index 1 at pc 0FFFFFFC goes to 10000004
+    figure (deltaInstr (core 0x0ffffffc 0 0) (wordOf 0b000010 0 0 1) 0 .pc) 0x10000004 ∷
+    -- beq taken, immediate FFFF, at 100 goes to FC
+    figure (deltaInstr (core 0x100 0 0) (wordOf 0b000100 0 0 0xffff) 0 .pc) 0xfc ∷
+    []
+
+pub figures-hold : map (λ (f : Figure). f .found) figures ≡ map (λ (f : Figure). f .printed) figures
+unfolding deltaInstr decoded rowOf alures ovf alucon mures bcres signed sxt gprw rdes cad gprdin itype rtype compi compr alu mulacc b jump su load cas jal jalr movg2s movs2g mfhi mflo mthi mtlo mul
+figures-hold = refl

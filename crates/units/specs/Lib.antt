@@ -1,0 +1,5 @@
+pub mod Control
+pub mod Alu
+pub mod Multiplication
+pub mod Branch
+pub mod Shift
