@@ -1,0 +1,16 @@
+pub mod Counts
+pub mod Links
+pub mod Words
+pub mod Three
+pub mod Good
+pub mod Views
+pub mod Along
+pub mod Sweep
+pub mod Sweeping
+pub mod Low
+pub mod Laws
+pub mod Checking
+pub mod Fold
+pub mod Stores
+pub mod Whole
+pub mod Contents
