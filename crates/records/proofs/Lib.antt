@@ -14,3 +14,5 @@ pub mod Fold
 pub mod Stores
 pub mod Whole
 pub mod Contents
+pub mod Frame
+pub mod Sound
