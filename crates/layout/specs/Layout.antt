@@ -129,3 +129,18 @@ asid = 6
 
 abbrev pub mode : ℕ
 mode = 7
+
+-- ---- port addresses
+
+-- the ports of a core's local APIC, and of the I/O APIC
+abbrev pub localPorts : ℕ
+localPorts = 0xFFFF_F000
+
+abbrev pub localPortBytes : ℕ
+localPortBytes = 128
+
+abbrev pub ioPorts : ℕ
+ioPorts = 0xFFFF_E000
+
+abbrev pub ioPortBytes : ℕ
+ioPortBytes = 8

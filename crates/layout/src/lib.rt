@@ -48,3 +48,11 @@ pub const INITRR: usize = 114;
 pub const RECORDS: usize = 128;
 
 pub const RECORD_WORDS: usize = 4;
+
+pub const LOCAL_PORTS: usize = 0xFFFF_F000;
+
+pub const LOCAL_PORT_BYTES: usize = 128;
+
+pub const IO_PORTS: usize = 0xFFFF_E000;
+
+pub const IO_PORT_BYTES: usize = 8;

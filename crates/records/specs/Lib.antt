@@ -1,0 +1,4 @@
+pub mod Records
+pub mod Contents
+pub mod Rules
+pub mod Tallied
