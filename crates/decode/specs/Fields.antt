@@ -1,24 +1,22 @@
 -- The fields of an instruction word (definition 23).
 -- Assumes nothing.
-use Prim.Native.Nat.{ℕ, _/_, _%_, _^_}
+use Prim.Native.Nat.{ℕ, _%_, _^_}
+use Rattle.word.specs.Word.{field}
 
--- I[31:26]
 abbrev pub opc : ℕ → ℕ
-opc w = w / 2 ^ 26
+opc w = field 31 26 w
 
--- I[25:21], I[20:16], I[15:11]
 abbrev pub rs : ℕ → ℕ
-rs w = w / 2 ^ 21 % 2 ^ 5
+rs w = field 25 21 w
 
 abbrev pub rt : ℕ → ℕ
-rt w = w / 2 ^ 16 % 2 ^ 5
+rt w = field 20 16 w
 
 abbrev pub rd : ℕ → ℕ
-rd w = w / 2 ^ 11 % 2 ^ 5
+rd w = field 15 11 w
 
--- I[10:6]
 abbrev pub sa : ℕ → ℕ
-sa w = w / 2 ^ 6 % 2 ^ 5
+sa w = field 10 6 w
 
 -- I[5:0]
 abbrev pub fun : ℕ → ℕ

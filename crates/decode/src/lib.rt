@@ -194,7 +194,7 @@ fn sign_branch(rt: u32) -> Instruction
 pub fn decode(w: u32) -> Instruction
     ensures { λ r. ⌜ r ≡ decoded w ⌝ }
 {
-    let opcode = w >> 26;
+    let opcode = (w >> 26) % 64;
     let rt = (w >> 16) % 32;
     match opcode {
         0b000000 => special(w % 64),

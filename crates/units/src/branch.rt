@@ -6,7 +6,7 @@ ghost use Rattle.units.specs.Branch.{bcres, bcon};
 pub fn control(w: u32) -> u32
     ensures { λ r. ⌜ r ≡ bcon w ⌝ }
 {
-    let opcode = w >> 26;
+    let opcode = (w >> 26) % 64;
     let rt = (w >> 16) % 32;
     opcode % 8 * 2 + rt % 2
 }

@@ -6,7 +6,7 @@ ghost use Rattle.units.specs.Multiplication.{mures, mulcon};
 pub fn control(w: u32) -> u32
     ensures { λ r. ⌜ r ≡ mulcon w ⌝ }
 {
-    let opcode = w >> 26;
+    let opcode = (w >> 26) % 64;
     let fun = w % 64;
     ((opcode >> 2) % 2 + (fun >> 1) % 2) % 2 * 4 + (fun >> 2) % 2 * 2 + fun % 2
 }
