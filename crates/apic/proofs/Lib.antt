@@ -1,0 +1,4 @@
+pub mod Bits
+pub mod Least
+pub mod Words
+pub mod Events
