@@ -2,3 +2,5 @@ pub mod Bits
 pub mod Least
 pub mod Words
 pub mod Events
+pub mod Registers
+pub mod Kept
