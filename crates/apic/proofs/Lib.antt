@@ -4,3 +4,5 @@ pub mod Words
 pub mod Events
 pub mod Registers
 pub mod Kept
+pub mod Ports
+pub mod Sendings

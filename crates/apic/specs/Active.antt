@@ -6,7 +6,8 @@ use Prim.Native.Nat.{ℕ, _+_, _/_, _%_, _^_}
 use lib.ListN.{getD, set}
 use lib.Dec.{eqb}
 use Rattle.word.specs.Word.{if_then_else_, sll}
-use Rattle.layout.specs.Layout.{spr, pc, running, sipirr, sipivect, initrr, eca, mode}
+use Rattle.layout.specs.Layout.{spr, pc, running, eoipending, sipirr, sipivect, initrr, eca, mode}
+use Rattle.apic.specs.declared.vectors.Found.{Found}
 use Rattle.apic.specs.declared.local.Kind.{Kind}
 use Rattle.apic.specs.declared.local.Kind.the-variants.{Fixed, Init, Startup}
 use Rattle.apic.specs.declared.active.Target.{Target}
@@ -14,7 +15,7 @@ use Rattle.apic.specs.declared.active.Target.the-variants.{Id, Own, All,
 use Rattle.apic.specs.declared.active.Ipi.{Ipi}
 use Rattle.apic.specs.declared.active.Sending.{Sending}
 use Rattle.apic.specs.declared.active.Sending.the-variants.{Send, Refused}
-use Rattle.apic.specs.Vectors.{bit, withBit}
+use Rattle.apic.specs.Vectors.{bit, withBit, withVector, lowest}
 use Rattle.apic.specs.LocalApic.{icr, idOf, received}
 
 -- ---- apic-sendIPI
@@ -63,6 +64,16 @@ aimed AllButOwn own same = not own
 -- a core's block after the interrupt has gone over the bus
 unfoldable pub reached : Ipi → Bool → List ℕ → List ℕ
 reached m own b = if aimed (m .target) own (eqb (idOf b) (m .dest)) then received b (m .kind) (m .vect) else b
+
+-- ---- apic-sendEOI
+
+-- the vector of the message that is to be sent
+abbrev pub pendingEoi : List ℕ → Found
+pendingEoi b = lowest b eoipending
+
+-- the sender afterwards
+abbrev pub eoiSent : List ℕ → ℕ → List ℕ
+eoiSent b v = withVector b eoipending v 0
 
 -- ---- apic-initCore
 

@@ -2,6 +2,7 @@
 use super::local;
 use super::local::Kind;
 use super::vectors;
+use super::vectors::Found;
 ghost use mathlib.Core.Path.{_≡_};
 ghost use Prim.Native.Nat.{_<_};
 ghost use lib.ListN.{length};
@@ -118,6 +119,22 @@ pub fn reach(b: &mut [u32], own: bool, m: Ipi)
         let k = m.kind;
         local::receive(b, k, m.vect);
     }
+}
+
+// The vector whose EOI message is to be sent.
+pub fn pending_eoi(b: &[u32]) -> Found
+    requires { ⌜ length (now b) ≡ 256 ⌝ }
+    ensures { λ r. ⌜ r ≡ s.pendingEoi (now (b .entry)) ⌝ }
+{
+    vectors::lowest(b, layout::EOIPENDING)
+}
+
+// The sender afterwards.
+pub fn eoi_sent(b: &mut [u32], v: u32)
+    requires { ⌜ (length (now b) ≡ 256) × (v < 256) ⌝ }
+    ensures { λ _. ⌜ now (b .exit) ≡ s.eoiSent (now (b .entry)) v ⌝ }
+{
+    vectors::put_vector(b, layout::EOIPENDING, v, 0);
 }
 
 pub fn may_init(b: &[u32]) -> bool

@@ -12,9 +12,8 @@ use borrow.Author.Tests.{eqb-true, eqb-false}
 use Rattle.word.specs.Word.{if_then_else_}
 use Rattle.layout.specs.Layout.{eoipending, redirect}
 use Rattle.apic.specs.declared.active.Ipi.{Ipi}
-use Rattle.apic.specs.Vectors.{withVector}
 use Rattle.apic.specs.LocalApic.{idOf, fixed, irr}
-use Rattle.apic.specs.Active.{idle, reached}
+use Rattle.apic.specs.Active.{idle, reached, eoiSent}
 use Rattle.apic.proofs.Kept.{Words, Passive, kept-all, kept-if, kept-idle, kept-reached, kept-vector}
 use Rattle.apic.proofs.Kept as local
 use Rattle.ioapic.specs.Blocks.{block, onBlock, onBlocks}
@@ -91,7 +90,7 @@ module _ (n : ℕ) (t : List ℕ) (all : length t ≡ 32 + 256 * n) where
 
   module _ (i : ℕ) (hi : i < n) (v : ℕ) (hv : v < 256) where
     abbrev g : List ℕ → List ℕ
-    g b = withVector b eoipending v 0
+    g b = eoiSent b v
 
     local-g : Local g
     local-g b = kept-vector b eoipending v 0 (omega arith) (omega arith) hv (omega arith)
@@ -118,7 +117,7 @@ module _ (n : ℕ) (t : List ℕ) (all : length t ≡ 32 + 256 * n) where
     unfolding sendEoi sent
     eoi-header x o h = kept-ended sent v .same x o ∙ onBlock-header g (sized g local-g) t i (has i hi) x h
 
-    pub eoi-block : (j : ℕ) → j < n → block (sendEoi i v t) j ≡ (if eqb j i then withVector (block t j) eoipending v 0 else block t j)
+    pub eoi-block : (j : ℕ) → j < n → block (sendEoi i v t) j ≡ (if eqb j i then eoiSent (block t j) v else block t j)
     unfolding sendEoi sent
     eoi-block j h =
         block-agrees sent (ended sent v) j (kept-ended sent v .long) (λ x l. kept-ended sent v .same x (inr l)) (omega (arith, sent-long))

@@ -4,11 +4,9 @@ use mathlib.Core.List.{List}
 use Prim.Native.Nat.{ℕ}
 use lib.Dec.{eqb}
 use Rattle.word.specs.Word.{if_then_else_}
-use Rattle.layout.specs.Layout.{eoipending}
 use Rattle.apic.specs.declared.active.Ipi.{Ipi}
-use Rattle.apic.specs.Vectors.{withVector}
 use Rattle.apic.specs.LocalApic.{idOf, fixed}
-use Rattle.apic.specs.Active.{idle, reached}
+use Rattle.apic.specs.Active.{idle, reached, eoiSent}
 use Rattle.ioapic.specs.Blocks.{onBlock, onBlocks}
 use Rattle.ioapic.specs.IoApic.{entry, dest, vect, ended, handed}
 
@@ -22,7 +20,7 @@ sendIpi n i m t = broadcast n i m (onBlock idle i t)
 
 -- apic-sendEOI: core i sends the EOI message for vector v
 unfoldable pub sendEoi : ℕ → ℕ → List ℕ → List ℕ
-sendEoi i v t = ended (onBlock (λ (b : List ℕ). withVector b eoipending v 0) i t) v
+sendEoi i v t = ended (onBlock (λ (b : List ℕ). eoiSent b v) i t) v
 
 -- ioapic-deliver: the interrupt of line k goes to every local APIC whose ID is the entry's destination
 unfoldable pub deliver : ℕ → ℕ → List ℕ → List ℕ

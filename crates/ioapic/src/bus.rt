@@ -4,7 +4,6 @@ use apic::active;
 use apic::active::Ipi;
 use apic::active::Target;
 use apic::local::Kind;
-use apic::vectors;
 ghost use mathlib.Core.Path.{_≡_};
 ghost use Prim.Native.Nat.{_+_, _*_, _<_, _≤_};
 ghost use lib.ListN.{length};
@@ -40,7 +39,7 @@ pub fn send_eoi(t: &mut [u32], n: usize, i: usize, v: u32)
 {
     let a = layout::HEADER_WORDS + layout::BLOCK_WORDS * i;
     let e = a + layout::BLOCK_WORDS;
-    vectors::put_vector(&mut t[a..e], layout::EOIPENDING, v, 0);
+    active::eoi_sent(&mut t[a..e], v);
     ports::end(t, v);
 }
 

@@ -15,20 +15,20 @@ add-a c = search needs
 add-e : tie.Need-add-e
 add-e c = search needs
 
-mul-put-vector : tie.Need-mul-put-vector
-mul-put-vector c = search needs
+mul-eoi-sent : tie.Need-mul-eoi-sent
+mul-eoi-sent c = search needs
 
-sub-put-vector : tie.Need-sub-put-vector
-sub-put-vector c = search needs
+sub-eoi-sent : tie.Need-sub-eoi-sent
+sub-eoi-sent c = search needs
 
-part-put-vector-start : tie.Need-part-put-vector-start
-part-put-vector-start c = search needs
+part-eoi-sent-start : tie.Need-part-eoi-sent-start
+part-eoi-sent-start c = search needs
 
-part-put-vector-end : tie.Need-part-put-vector-end
-part-put-vector-end c = search needs
+part-eoi-sent-end : tie.Need-part-eoi-sent-end
+part-eoi-sent-end c = search needs
 
-put-vector-requires : tie.Need-put-vector-requires
-put-vector-requires c κs = search needs
+eoi-sent-requires : tie.Need-eoi-sent-requires
+eoi-sent-requires c κs = search needs
 
 end-requires : tie.Need-end-requires
 end-requires c κs = search needs
@@ -38,7 +38,7 @@ same-length c = search needs
 
 returns : tie.Need-returns
 unfolding sendEoi
-returns c = c .before .before .end .ensures ∙ simp (span, c .before .before .before .before .before .before .put-vector .ensures)
+returns c = c .before .before .end .ensures ∙ simp (span, c .before .before .before .before .before .before .eoi-sent .ensures)
 
 pub send-eoi-spec : {M : Type 1} → statement M
 send-eoi-spec =
@@ -47,11 +47,11 @@ send-eoi-spec =
     mul-a
     add-a
     add-e
-    mul-put-vector
-    sub-put-vector
-    part-put-vector-start
-    part-put-vector-end
-    put-vector-requires
+    mul-eoi-sent
+    sub-eoi-sent
+    part-eoi-sent-start
+    part-eoi-sent-end
+    eoi-sent-requires
     end-requires
     same-length
     returns)
