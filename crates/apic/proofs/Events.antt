@@ -6,11 +6,10 @@ use mathlib.Core.List.{List}
 use mathlib.Core.Logic.{⊎-elim}
 use Prim.Native.Nat.{ℕ, zero, suc, _≤_, _<_}
 use native.Mathlib.Omega.{arith}
-use lib.Dec.{eqb, ltb}
+use lib.Dec.{eqb}
 use borrow.Author.Tests.{eq-eqb, ne-eqb}
 use Rattle.word.specs.Word.{if_then_else_}
 use Rattle.word.proofs.Laws.{side}
-use Rattle.apic.specs.declared.vectors.Found.{Found}
 use Rattle.apic.specs.declared.vectors.Found.the-variants.{Vector, None}
 use Rattle.apic.specs.Vectors.{bitAt, least, lowest}
 use Rattle.apic.specs.LocalApic.{isr, irr, someUpTo, event}

@@ -1,22 +1,22 @@
 -- What a step of the I/O APIC leaves: every word but its own as it was, and words as words. What an EOI message does, entry by entry.
 -- Assumes nothing.
-use mathlib.Core.Path.{_≡_, refl, sym, ap, _∙_, subst}
+use mathlib.Core.Path.{_≡_, refl, sym, ap, _∙_}
 use mathlib.Core.Bool.{Bool, true, false}
 use mathlib.Core.List.{List}
-use mathlib.Core.Logic.{_⊎_, inl, inr, ⊎-elim}
+use mathlib.Core.Logic.{_⊎_, ⊎-elim}
 use Prim.Native.Nat.{ℕ, zero, suc, _+_, _^_, _≤_, _<_}
 use native.Mathlib.Omega.{arith}
 use lib.ListN.{getD, set, length, length-set}
 use lib.Seq.{getD-set-same, getD-set-other}
 use lib.Dec.{eqb, ltb}
-use borrow.Author.Tests.{ltb-true, eqb-true, eqb-false}
+use borrow.Author.Tests.{ltb-true}
 use Rattle.word.specs.Word.{if_then_else_}
 use Rattle.word.proofs.Laws.{side}
 use Rattle.layout.specs.Layout.{ioregsel, iowin, redirect}
 use Rattle.apic.specs.Vectors.{withBit}
 use Rattle.apic.proofs.Bits.{put-lt}
 use Rattle.apic.proofs.Kept.{Words, set-case}
-use Rattle.ioapic.specs.IoApic.{entry, withEntry, vect, rirr, ds, selected, windowed, written, writes, onEntries, acknowledged, ended, sampled, handed}
+use Rattle.ioapic.specs.IoApic.{entry, withEntry, vect, rirr, ds, selected, windowed, written, onEntries, acknowledged, ended, sampled, handed}
 
 -- the words that are not the I/O APIC's
 abbrev pub Foreign : ℕ → Type 0

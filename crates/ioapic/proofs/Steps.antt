@@ -3,8 +3,8 @@
 use mathlib.Core.Path.{_≡_, refl, sym, ap, _∙_, subst}
 use mathlib.Core.Bool.{Bool, true, false}
 use mathlib.Core.List.{List}
-use mathlib.Core.Logic.{_⊎_, inl, inr}
-use Prim.Native.Nat.{ℕ, _+_, _*_, _^_, _≤_, _<_}
+use mathlib.Core.Logic.{_⊎_, inr}
+use Prim.Native.Nat.{ℕ, _+_, _*_, _<_}
 use native.Mathlib.Omega.{arith}
 use lib.ListN.{length, getD}
 use lib.Dec.{eqb}
@@ -16,7 +16,7 @@ use Rattle.apic.specs.LocalApic.{idOf, fixed, irr}
 use Rattle.apic.specs.Active.{idle, reached, eoiSent}
 use Rattle.apic.proofs.Kept.{Words, Passive, kept-all, kept-if, kept-idle, kept-reached, kept-vector}
 use Rattle.apic.proofs.Kept as local
-use Rattle.ioapic.specs.Blocks.{block, onBlock, onBlocks}
+use Rattle.ioapic.specs.Blocks.{block, onBlock}
 use Rattle.ioapic.specs.IoApic.{entry, dest, vect, acknowledged, ended, handed}
 use Rattle.ioapic.specs.Bus.{broadcast, sendIpi, sendEoi, deliver}
 use Rattle.ioapic.proofs.Tables.{Has}

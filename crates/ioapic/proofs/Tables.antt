@@ -1,15 +1,15 @@
 -- Laws of a block put into the tables, word by word and block by block.
 -- Assumes nothing.
-use mathlib.Core.Path.{_≡_, refl, sym, ap, _∙_, subst}
-use mathlib.Core.List.{List, [], _++_}
+use mathlib.Core.Path.{_≡_, sym, ap, _∙_, subst}
+use mathlib.Core.List.{List, _++_}
 use mathlib.Core.Logic.{_⊎_, inl, inr, ⊎-elim}
-use Prim.Native.Nat.{ℕ, zero, suc, _+_, _-_, _*_, _≤_, _<_, min}
+use Prim.Native.Nat.{ℕ, _+_, _-_, _≤_, _<_}
 use native.Mathlib.Omega.{arith}
 use lib.ListN.{length, getD, take, drop, length-append, length-take, length-drop, List·getD-append}
 use lib.Seq.{getD-append-add, getD-take, getD-drop, ext-getD, length-take-le}
 use Rattle.word.proofs.Laws.{side}
 use Rattle.layout.specs.Layout.{blockAt}
-use Rattle.ioapic.specs.Blocks.{block, withBlock, onBlock, onBlocks}
+use Rattle.ioapic.specs.Blocks.{block, withBlock}
 
 -- core k has a block
 abbrev pub Has : List ℕ → ℕ → Type 0

@@ -1,7 +1,6 @@
 -- `apic::active::by_mode` meets its contract, by the delivery mode.
 use borrow.Author.Needs.{needs}
 use borrow.Author.Tests.{eq-eqb, ne-eqb}
-use Rattle.apic.specs.Active.{byMode}
 use Rattle.apic.proofs.active.by_mode.Statement.{statement}
 use Rattle.apic.proofs.active.by_mode.Tie as tie
 

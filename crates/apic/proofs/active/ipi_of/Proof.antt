@@ -1,8 +1,5 @@
 -- `apic::active::ipi_of` meets its contract.
 use borrow.Author.Needs.{needs}
-use mathlib.Core.Path.{_≡_, ap}
-use Rattle.apic.specs.declared.active.Target.{Target}
-use Rattle.apic.specs.declared.active.Ipi.{Ipi}
 use Rattle.apic.proofs.active.ipi_of.Statement.{statement}
 use Rattle.apic.proofs.active.ipi_of.Tie as tie
 

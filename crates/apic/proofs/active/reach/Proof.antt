@@ -1,6 +1,6 @@
 -- `apic::active::reach` meets its contract.
 use borrow.Author.Needs.{needs}
-use mathlib.Core.Path.{_≡_, sym, _∙_}
+use mathlib.Core.Path.{_∙_}
 use Rattle.apic.specs.Active.{reached}
 use Rattle.apic.proofs.active.reach.Statement.{statement}
 use Rattle.apic.proofs.active.reach.Tie as tie

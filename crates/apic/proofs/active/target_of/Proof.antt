@@ -1,6 +1,5 @@
 -- `apic::active::target_of` meets its contract, by the shorthand.
 use borrow.Author.Tests.{eq-eqb, ne-eqb}
-use Rattle.apic.specs.Active.{targetOf}
 use Rattle.apic.proofs.active.target_of.Statement.{statement}
 use Rattle.apic.proofs.active.target_of.Tie as tie
 

@@ -1,6 +1,6 @@
 -- `apic::local::event` meets its contract, by the lowest vectors of both registers.
 use borrow.Author.Needs.{needs}
-use mathlib.Core.Path.{_≡_, sym, _∙_}
+use mathlib.Core.Path.{sym, _∙_}
 use Rattle.apic.proofs.Events.{event-none, event-free, event-below, event-masked}
 use Rattle.apic.proofs.local.event.Statement.{statement}
 use Rattle.apic.proofs.local.event.Tie as tie

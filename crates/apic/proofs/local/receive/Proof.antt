@@ -1,6 +1,6 @@
 -- `apic::local::receive` meets its contract, by the kind of interrupt.
 use borrow.Author.Needs.{needs}
-use mathlib.Core.Path.{_≡_, sym, ap, _∙_}
+use mathlib.Core.Path.{sym, ap, _∙_}
 use Rattle.apic.specs.declared.local.Kind.{Kind}
 use Rattle.apic.specs.LocalApic.{received}
 use Rattle.apic.proofs.local.receive.Statement.{statement}

@@ -1,9 +1,7 @@
 -- `apic::local::rfe` meets its contract.
 use borrow.Author.Needs.{needs}
-use mathlib.Core.Path.{_≡_, sym, ap, _∙_}
+use mathlib.Core.Path.{_∙_}
 use native.Mathlib.Omega.{arith}
-use lib.ListN.{length-set}
-use Rattle.apic.specs.Vectors.{marked}
 use Rattle.apic.specs.LocalApic.{isr, rfe}
 use Rattle.apic.proofs.Least.{lowest-vector}
 use Rattle.apic.proofs.local.rfe.Statement.{statement}

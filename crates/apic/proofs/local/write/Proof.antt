@@ -1,6 +1,6 @@
 -- `apic::local::write` meets its contract.
 use borrow.Author.Needs.{needs}
-use mathlib.Core.Path.{_≡_, _∙_}
+use mathlib.Core.Path.{_∙_}
 use borrow.Author.Tests.{eq-eqb, ne-eqb}
 use Rattle.apic.specs.LocalApic.{written}
 use Rattle.apic.proofs.local.write.Statement.{statement}

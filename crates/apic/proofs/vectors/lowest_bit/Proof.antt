@@ -1,8 +1,8 @@
 -- `apic::vectors::lowest_bit` meets its contract. The invariant: no bit below i is set.
 use mathlib.Core.Path.{_≡_, sym, ap, _∙_}
-use Prim.Native.Nat.{ℕ, _-_, _≤_, _<_}
+use Prim.Native.Nat.{ℕ, _-_, _≤_}
 use native.Mathlib.Omega.{arith}
-use borrow.Author.Count.{below-more, below-none}
+use borrow.Author.Count.{below-more}
 use Rattle.apic.specs.Vectors.{bit}
 use Rattle.apic.proofs.Bits.{bit-zero}
 use Rattle.apic.proofs.Least.{Unset, found-at, found-none}

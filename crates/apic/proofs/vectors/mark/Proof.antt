@@ -1,6 +1,6 @@
 -- `apic::vectors::mark` meets its contract, by the case found.
 use borrow.Author.Needs.{needs}
-use mathlib.Core.Path.{_≡_, sym, ap, _∙_}
+use mathlib.Core.Path.{sym, ap, _∙_}
 use borrow.Author.Tests.{ltb-true}
 use Rattle.apic.specs.declared.vectors.Found.{Found}
 use Rattle.apic.specs.Vectors.{marked, isVector}

@@ -1,7 +1,7 @@
 -- `apic::vectors::put_bit` meets its contract: nothing is shifted out of the word.
 use borrow.Author.Needs.{needs}
-use mathlib.Core.Path.{_≡_, sym, subst}
-use Prim.Native.Nat.{ℕ, _/_, _^_, _<_}
+use mathlib.Core.Path.{sym, subst}
+use Prim.Native.Nat.{ℕ, _^_, _<_}
 use native.Mathlib.Omega.{arith}
 use lib.Pow.{pow-pos, shr-le}
 use Rattle.apic.proofs.Bits.{one-exact, put-exact, put-lt}

@@ -1,6 +1,6 @@
 -- `ioapic::bus::deliver` meets its contract: an interrupt for an ID does not ask who sends it.
 use borrow.Author.Needs.{needs}
-use mathlib.Core.Path.{_≡_, _∙_}
+use mathlib.Core.Path.{_∙_}
 use Rattle.apic.specs.Active.{reached}
 use Rattle.ioapic.specs.Bus.{broadcast, deliver}
 use Rattle.ioapic.proofs.bus.deliver.Statement.{statement}

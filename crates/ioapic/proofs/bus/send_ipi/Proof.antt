@@ -1,6 +1,6 @@
 -- `ioapic::bus::send_ipi` meets its contract.
 use borrow.Author.Needs.{needs}
-use mathlib.Core.Path.{_≡_, _∙_}
+use mathlib.Core.Path.{_∙_}
 use Rattle.ioapic.specs.Bus.{sendIpi}
 use Rattle.ioapic.proofs.Loops.{span}
 use Rattle.ioapic.proofs.bus.send_ipi.Statement.{statement}

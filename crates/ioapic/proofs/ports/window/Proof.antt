@@ -1,8 +1,7 @@
 -- `ioapic::ports::window` meets its contract.
 use borrow.Author.Needs.{needs}
-use mathlib.Core.Path.{_≡_, refl, sym, ap, _∙_}
 use native.Mathlib.Omega.{arith}
-use borrow.Author.Tests.{eq-eqb, ne-eqb, lt-ltb, le-ltb}
+use borrow.Author.Tests.{lt-ltb, le-ltb}
 use lib.ListN.{length-set}
 use Rattle.ioapic.specs.IoApic.{windowed}
 use Rattle.ioapic.proofs.ports.window.Statement.{statement}

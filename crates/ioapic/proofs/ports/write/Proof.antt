@@ -1,7 +1,7 @@
 -- `ioapic::ports::write` meets its contract.
 use borrow.Author.Needs.{needs}
-use mathlib.Core.Path.{_≡_, refl, sym, ap, _∙_}
-use borrow.Author.Tests.{eq-eqb, ne-eqb, lt-ltb, le-ltb}
+use mathlib.Core.Path.{_∙_}
+use borrow.Author.Tests.{eq-eqb, ne-eqb}
 use Rattle.ioapic.specs.IoApic.{written}
 use Rattle.ioapic.proofs.Loops.{selects}
 use Rattle.ioapic.proofs.ports.write.Statement.{statement}
