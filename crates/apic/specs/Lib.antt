@@ -1,0 +1,4 @@
+pub mod Vectors
+pub mod LocalApic
+pub mod Active
+pub mod Figures

@@ -1,0 +1,3 @@
+pub mod active;
+pub mod local;
+pub mod vectors;

@@ -1,0 +1,76 @@
+// Registers of 256 bits in a list of words: vector v is bit v mod 32 of the word at place + v div 32.
+ghost use mathlib.Core.Path.{_≡_};
+ghost use mathlib.Core.Bool.{true};
+ghost use Prim.Native.Nat.{ℕ, _+_, _<_, _≤_, _^_};
+ghost use lib.ListN.{length};
+ghost use Rattle.apic.specs.Vectors.{bit, withBit, withVector, least, lowest, marked, isVector};
+
+pub enum Found {
+    Vector(u32),
+    None,
+}
+
+// w with x at bit i.
+pub fn put_bit(w: u32, i: u32, x: u32) -> u32
+    requires { ⌜ (i < 32) × (x < 2) ⌝ }
+    ensures { λ r. ⌜ r ≡ withBit w i x ⌝ }
+{
+    let high = (w >> i) / 2 * 2 + x;
+    let low = w % (1 << i);
+    (high << i) + low
+}
+
+// The lowest bit that is set in a word.
+fn lowest_bit(w: u32) -> Found
+    ensures { λ r. ⌜ r ≡ least (λ (i : ℕ). bit w i) 32 0 ⌝ }
+{
+    if w == 0 {
+        return Found::None;
+    }
+    let mut i = 0;
+    while i < 32 {
+        if (w >> i) % 2 == 1 {
+            return Found::Vector(i);
+        }
+        i += 1;
+    }
+    Found::None
+}
+
+// The lowest vector that is set in the register at a place.
+pub fn lowest(b: &[u32], place: usize) -> Found
+    requires { ⌜ (place < 2 ^ 32) × (place + 8 ≤ length (now b)) ⌝ }
+    ensures { λ r. ⌜ r ≡ lowest (now (b .entry)) place ⌝ }
+{
+    let mut i: u32 = 0;
+    while i < 8 {
+        let at = place + i as usize;
+        if let Found::Vector(v) = lowest_bit(b[at]) {
+            return Found::Vector(32 * i + v);
+        }
+        i += 1;
+    }
+    Found::None
+}
+
+// x at vector v of the register at a place.
+pub fn put_vector(b: &mut [u32], place: usize, v: u32, x: u32)
+    requires { ⌜ (place < 2 ^ 32) × (place + 8 ≤ length (now b)) ⌝ }
+    requires { ⌜ (v < 256) × (x < 2) ⌝ }
+    ensures { λ _. ⌜ now (b .exit) ≡ withVector (now (b .entry)) place v x ⌝ }
+{
+    let at = place + (v / 32) as usize;
+    b[at] = put_bit(b[at], v % 32, x);
+}
+
+// x at the vector found, if one was.
+pub fn mark(b: &mut [u32], place: usize, f: Found, x: u32)
+    requires { ⌜ (place < 2 ^ 32) × (place + 8 ≤ length (now b)) ⌝ }
+    requires { ⌜ (isVector f ≡ true) × (x < 2) ⌝ }
+    ensures { λ _. ⌜ now (b .exit) ≡ marked (now (b .entry)) place f x ⌝ }
+{
+    match f {
+        Found::Vector(v) => put_vector(b, place, v, x),
+        Found::None => {}
+    }
+}

@@ -1,0 +1,118 @@
+-- A function at the block of every core: block by block, and what it leaves.
+-- Assumes nothing.
+use mathlib.Core.Path.{_≡_, refl, sym, ap, _∙_, subst}
+use mathlib.Core.List.{List}
+use mathlib.Core.Logic.{inl, inr, ⊎-elim}
+use Prim.Native.Nat.{ℕ, zero, suc, _+_, _-_, _*_, _^_, _≤_, _<_}
+use native.Mathlib.Omega.{arith}
+use lib.ListN.{length, getD, List·getD-eq-default}
+use lib.Seq.{ext-getD}
+use Rattle.word.proofs.Laws.{side}
+use Rattle.layout.specs.Layout.{blockAt}
+use Rattle.apic.proofs.Kept.{Words}
+use Rattle.ioapic.specs.Blocks.{block, withBlock, onBlock, onBlocks}
+use Rattle.ioapic.proofs.Tables.{Has, block-long, word-of-block, withBlock-long, word-inside, word-before, word-outside, block-same, block-other}
+
+-- f keeps the length of a block
+abbrev pub Sized : (List ℕ → List ℕ) → Type 0
+Sized f = (b : List ℕ) → length b ≡ 256 → length (f b) ≡ 256
+
+-- f keeps words
+abbrev pub Wordly : (List ℕ → List ℕ) → Type 0
+Wordly f = (b : List ℕ) → Words b → Words (f b)
+
+pub block-words : (t : List ℕ) (k : ℕ) → Has t k → Words t → Words (block t k)
+block-words t k h w x =
+    ⊎-elim (λ l. subst (λ (y : ℕ). y < 2 ^ 32) (sym (word-of-block t k x l)) (w (blockAt k + x)))
+    (λ l. subst (λ (y : ℕ). y < 2 ^ 32) (sym (List·getD-eq-default (block t k) 0 (omega (arith, block-long t k h)))) (omega arith))
+    (side x 256)
+
+module _ (t : List ℕ) (k : ℕ) (b : List ℕ) (h : Has t k) (e : length b ≡ 256) where
+  pub withBlock-words : Words t → Words b → Words (withBlock t k b)
+  withBlock-words wt wb x =
+      ⊎-elim (λ l. subst (λ (y : ℕ). y < 2 ^ 32) (sym (word-outside t k b h e x (inl l))) (wt x))
+      (λ l. ⊎-elim
+      (λ m.
+      let p : x ≡ blockAt k + (x - blockAt k) = omega arith in
+      subst (λ (n : ℕ). getD (withBlock t k b) n 0 < 2 ^ 32) (sym p)
+      (subst (λ (y : ℕ). y < 2 ^ 32) (sym (word-inside t k b h e (x - blockAt k) (omega arith))) (wb (x - blockAt k))))
+      (λ m. subst (λ (y : ℕ). y < 2 ^ 32) (sym (word-outside t k b h e x (inr m))) (wt x))
+      (side x (blockAt k + 256)))
+      (side x (blockAt k))
+
+-- tables that agree from word 30 on, as after a step of the I/O APIC, have the same blocks
+pub block-agrees : (t t′ : List ℕ) (j : ℕ) → length t′ ≡ length t → ((x : ℕ) → 29 < x → getD t′ x 0 ≡ getD t x 0) → Has t j →
+    block t′ j ≡ block t j
+block-agrees t t′ j l s h =
+    ext-getD 0 (block t′ j) (block t j) (block-long t′ j (omega arith) ∙ sym (block-long t j h))
+    (λ x m.
+    let q : x < 256 = omega (arith, block-long t′ j (omega arith)) in
+    word-of-block t′ j x q ∙ s (blockAt j + x) (omega arith) ∙ sym (word-of-block t j x q))
+
+-- ---- at one block
+
+module _ (f : List ℕ → List ℕ) (sized : Sized f) (t : List ℕ) (k : ℕ) (h : Has t k) where
+  long : length (f (block t k)) ≡ 256
+  long = sized (block t k) (block-long t k h)
+
+  pub onBlock-long : length (onBlock f k t) ≡ length t
+  onBlock-long = withBlock-long t k (f (block t k)) h long
+
+  pub onBlock-same : block (onBlock f k t) k ≡ f (block t k)
+  onBlock-same = block-same t k (f (block t k)) h long
+
+  pub onBlock-other : (j : ℕ) → Has t j → (j ≡ k → ⊥) → block (onBlock f k t) j ≡ block t j
+  onBlock-other j hj n = block-other t k (f (block t k)) h long j hj n
+
+  pub onBlock-header : (x : ℕ) → x < 32 → getD (onBlock f k t) x 0 ≡ getD t x 0
+  onBlock-header x l = word-before t k (f (block t k)) h long x (omega arith)
+
+  pub onBlock-words : Wordly f → Words t → Words (onBlock f k t)
+  onBlock-words g w = withBlock-words t k (f (block t k)) h long w (g (block t k) (block-words t k h w))
+
+-- ---- at all
+
+module _ (f : ℕ → List ℕ → List ℕ) (sized : (j : ℕ) → Sized (f j)) (t : List ℕ) where
+  module _ (c : ℕ) (all : length t ≡ 32 + 256 * c) where
+    pub onBlocks-long : (n : ℕ) → n ≤ c → length (onBlocks f n t) ≡ length t
+    unfolding onBlocks
+    onBlocks-long zero h = refl
+    onBlocks-long (suc n) h =
+        onBlock-long (f n) (sized n) (onBlocks f n t) n (omega (arith, onBlocks-long n (omega arith))) ∙ onBlocks-long n (omega arith)
+
+    has : (n k : ℕ) → n ≤ c → k < c → Has (onBlocks f n t) k
+    has n k h l = omega (arith, onBlocks-long n h)
+
+    pub onBlocks-header : (n : ℕ) → n ≤ c → (x : ℕ) → x < 32 → getD (onBlocks f n t) x 0 ≡ getD t x 0
+    unfolding onBlocks
+    onBlocks-header zero h x l = refl
+    onBlocks-header (suc n) h x l =
+        onBlock-header (f n) (sized n) (onBlocks f n t) n (has n n (omega arith) h) x l ∙ onBlocks-header n (omega arith) x l
+
+    later : (n : ℕ) → n ≤ c → (k : ℕ) → n ≤ k → k < c → block (onBlocks f n t) k ≡ block t k
+    unfolding onBlocks
+    later zero h k l m = refl
+    later (suc n) h k l m =
+        onBlock-other (f n) (sized n) (onBlocks f n t) n (has n n (omega arith) h) k (has n k (omega arith) m) (λ e. omega arith)
+        ∙ later n (omega arith) k (omega arith) m
+
+    -- the block of each core is its own function's
+    pub onBlocks-at : (n : ℕ) → n ≤ c → (k : ℕ) → k < n → block (onBlocks f n t) k ≡ f k (block t k)
+    unfolding onBlocks
+    onBlocks-at zero h k l = absurd (omega arith)
+    onBlocks-at (suc n) h k l =
+        ⊎-elim
+        (λ m.
+        onBlock-other (f n) (sized n) (onBlocks f n t) n (has n n (omega arith) h) k (has n k (omega arith) (omega arith)) (λ e. omega arith)
+        ∙ onBlocks-at n (omega arith) k m)
+        (λ m.
+        let e : k ≡ n = omega arith in
+        subst (λ (j : ℕ). block (onBlock (f n) n (onBlocks f n t)) j ≡ f j (block t j)) (sym e)
+        (onBlock-same (f n) (sized n) (onBlocks f n t) n (has n n (omega arith) h) ∙ ap (f n) (later n (omega arith) n (omega arith) h)))
+        (side k n)
+
+    pub onBlocks-words : ((j : ℕ) → Wordly (f j)) → (n : ℕ) → n ≤ c → Words t → Words (onBlocks f n t)
+    unfolding onBlocks
+    onBlocks-words g zero h w = w
+    onBlocks-words g (suc n) h w =
+        onBlock-words (f n) (sized n) (onBlocks f n t) n (has n n (omega arith) h) (g n) (onBlocks-words g n (omega arith) w)
