@@ -8,7 +8,8 @@ use native.Mathlib.Omega.{arith}
 use lib.Arith.{digits-lt}
 use lib.Pow.{pow-pos, pow-add, shr-lt, shr-shr, shl-exact, split, high}
 use Rattle.word.proofs.Laws.{side}
-use Rattle.apic.specs.Vectors.{bit, withBit}
+use Rattle.word.specs.Word.{bit}
+use Rattle.apic.specs.Vectors.{withBit}
 
 pub bit-lt : (w i : ℕ) → bit w i < 2
 bit-lt w i = omega arith

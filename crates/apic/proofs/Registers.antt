@@ -10,11 +10,11 @@ use lib.ListN.{getD, set, length, length-set}
 use lib.Seq.{getD-set-same, getD-set-other}
 use lib.Dec.{eqb}
 use borrow.Author.Tests.{ltb-true, eqb-true, eqb-false}
-use Rattle.word.specs.Word.{if_then_else_}
+use Rattle.word.specs.Word.{if_then_else_, bit}
 use Rattle.layout.specs.Layout.{eoipending}
 use Rattle.apic.specs.declared.vectors.Found.{Found}
 use Rattle.apic.specs.declared.vectors.Found.the-variants.{Vector, None}
-use Rattle.apic.specs.Vectors.{bit, withBit, bitAt, withVector, lowest, marked, isVector}
+use Rattle.apic.specs.Vectors.{withBit, bitAt, withVector, lowest, marked, isVector}
 use Rattle.apic.specs.LocalApic.{eoi, isr, irr, ended, fixed, jisr, rfe}
 use Rattle.apic.proofs.Bits.{bit-same, bit-other}
 use Rattle.apic.proofs.Least.{least-vector}

@@ -7,13 +7,12 @@ use Prim.Native.Nat.{ℕ, _+_, _/_, _%_, _^_, _<_}
 use native.Mathlib.Omega.{arith}
 use lib.ListN.{getD}
 use lib.Dec.{eqb}
-use Rattle.word.specs.Word.{if_then_else_}
+use Rattle.word.specs.Word.{if_then_else_, bit}
 use Rattle.apic.specs.declared.local.Kind.{Kind}
 use Rattle.apic.specs.declared.local.Kind.the-variants.{Fixed, Init, Startup}
 use Rattle.apic.specs.declared.active.Ipi.{Ipi}
 use Rattle.apic.specs.declared.active.Sending.{Sending}
 use Rattle.apic.specs.declared.active.Sending.the-variants.{Send, Refused}
-use Rattle.apic.specs.Vectors.{bit}
 use Rattle.apic.specs.LocalApic.{icr}
 use Rattle.apic.specs.Active.{ipiOf, sendingOf, sending}
 

@@ -8,7 +8,8 @@ use native.Mathlib.Omega.{arith}
 use lib.ListN.{getD}
 use Rattle.word.proofs.Laws.{side}
 use Rattle.apic.specs.declared.vectors.Found.the-variants.{Vector, None}
-use Rattle.apic.specs.Vectors.{bit, bitAt, least, lowest}
+use Rattle.word.specs.Word.{bit}
+use Rattle.apic.specs.Vectors.{bitAt, least, lowest}
 use Rattle.apic.proofs.Least.{Unset, found-at, set-below, set-there, unset-below, unset-all}
 
 module _ (b : List ℕ) (p i : ℕ) where

@@ -5,13 +5,11 @@ use mathlib.Core.List.{List}
 use Prim.Native.Nat.{ℕ, zero, suc, _+_, _*_, _/_, _%_, _^_}
 use lib.ListN.{getD, set}
 use lib.Dec.{eqb, ltb}
+use Rattle.word.specs.Word.{bit}
 use Rattle.apic.specs.declared.vectors.Found.{Found}
 use Rattle.apic.specs.declared.vectors.Found.the-variants.{Vector, None}
 
 -- ---- a bit of a word
-
-abbrev pub bit : ℕ → ℕ → ℕ
-bit w i = w / 2 ^ i % 2
 
 -- w with x at bit i: the bits above i, then x, then the bits below
 unfoldable pub withBit : ℕ → ℕ → ℕ → ℕ

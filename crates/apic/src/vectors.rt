@@ -3,7 +3,8 @@ ghost use mathlib.Core.Path.{_≡_};
 ghost use mathlib.Core.Bool.{true};
 ghost use Prim.Native.Nat.{ℕ, _+_, _<_, _≤_, _^_};
 ghost use lib.ListN.{length};
-ghost use Rattle.apic.specs.Vectors.{bit, withBit, withVector, least, lowest, marked, isVector};
+ghost use Rattle.word.specs.Word.{bit};
+ghost use Rattle.apic.specs.Vectors.{withBit, withVector, least, lowest, marked, isVector};
 
 pub enum Found {
     Vector(u32),

@@ -6,7 +6,7 @@ use mathlib.Core.List.{List, [], _∷_}
 use Prim.Native.Nat.{ℕ, _+_, _-_, _*_, _/_, _%_, _^_}
 use lib.Dec.{eqb}
 use lib.ListN.{getD, set}
-use Rattle.word.specs.Word.{if_then_else_, bit, plus, sxt, sll}
+use Rattle.word.specs.Word.{if_then_else_, isSet, plus, sxt, sll}
 use Rattle.decode.specs.declared.Load.the-variants.{Lb, Lh, Lw, Lbu, Lhu}
 use Rattle.decode.specs.declared.Store.the-variants.{Sb, Sh, Sw}
 use Rattle.decode.specs.declared.System.the-variants.{Cas}
@@ -44,7 +44,7 @@ lop c w = gprAt c (rs w)
 
 -- r says that the instruction is of R-type
 abbrev pub rop : Bool → Registers → ℕ → ℕ
-rop r c w = if r then gprAt c (rt w) else if not (bit w 28) then sxt 15 (imm w) else imm w
+rop r c w = if r then gprAt c (rt w) else if not (isSet w 28) then sxt 15 (imm w) else imm w
 
 -- definition 29
 abbrev pub compres : Instruction → Registers → ℕ → ℕ
@@ -67,7 +67,7 @@ btarget i c w =
 
 -- definition 38; fun[2] tells the distances apart, not fun[3], which is 0 in all six shifts
 abbrev pub sdist : Registers → ℕ → ℕ
-sdist c w = if not (bit w 2) then sa w else gprAt c (rs w) % 2 ^ 5
+sdist c w = if not (isSet w 2) then sa w else gprAt c (rs w) % 2 ^ 5
 
 abbrev pub slop : Registers → ℕ → ℕ
 slop c w = gprAt c (rt w)

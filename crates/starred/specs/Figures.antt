@@ -5,12 +5,15 @@ use mathlib.Core.Bool.{Bool, true, false}
 use mathlib.Core.List.{List, [], _∷_, map}
 use Prim.Native.Nat.{ℕ, _+_, _*_, _^_}
 use lib.ListN.{getD, set, replicate}
-use Rattle.word.specs.Word.{if_then_else_, signed, sxt}
+use Rattle.word.specs.Word.{flag, signed, sxt}
 use Rattle.decode.specs.Table.{decoded, rowOf}
 use Rattle.decode.specs.Mnemonics.{itype, rtype, compi, compr, alu, mulacc, b, jump, su, load, cas, jal, jalr, movg2s, movs2g, mfhi, mflo, mthi, mtlo, mul}
 use Rattle.units.specs.Alu.{alures, ovf, alucon}
 use Rattle.units.specs.Multiplication.{mures}
 use Rattle.units.specs.Branch.{bcres}
+use Rattle.apic.specs.Vectors.{withBit, withVector, least}
+use Rattle.apic.specs.LocalApic.{ended, written}
+use Rattle.apic.specs.Figures.{isrAfterEoi}
 use Rattle.isa.specs.declared.registers.Registers.{Registers}
 use Rattle.isa.specs.Core.{deltaInstr, gprw, rdes, cad, gprdin}
 
@@ -20,9 +23,6 @@ pub record Figure : Type 0 where
 
 abbrev figure : ℕ → ℕ → Figure
 figure x y = record { found = x; printed = y }
-
-abbrev flag : Bool → ℕ
-flag t = if t then 1 else 0
 
 -- a core at a pc, with general registers 1 and 2
 abbrev core : ℕ → ℕ → ℕ → Registers
@@ -68,8 +68,10 @@ figures =
     figure (deltaInstr (core 0x0ffffffc 0 0) (wordOf 0b000010 0 0 1) 0 .pc) 0x10000004 ∷
     -- beq taken, immediate FFFF, at 100 goes to FC
     figure (deltaInstr (core 0x100 0 0) (wordOf 0b000100 0 0 0xffff) 0 .pc) 0xfc ∷
+    -- ISR holds vectors 5 and 9: an EOI clears 5
+    figure isrAfterEoi (2 ^ 9) ∷
     []
 
 pub figures-hold : map (λ (f : Figure). f .found) figures ≡ map (λ (f : Figure). f .printed) figures
-unfolding deltaInstr decoded rowOf alures ovf alucon mures bcres signed sxt gprw rdes cad gprdin itype rtype compi compr alu mulacc b jump su load cas jal jalr movg2s movs2g mfhi mflo mthi mtlo mul
+unfolding deltaInstr decoded rowOf alures ovf alucon mures bcres signed sxt gprw rdes cad gprdin itype rtype compi compr alu mulacc b jump su load cas jal jalr movg2s movs2g mfhi mflo mthi mtlo mul written ended least withVector withBit
 figures-hold = refl

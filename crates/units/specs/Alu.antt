@@ -7,7 +7,7 @@ use lib.Dec.{ltb}
 use lib.IntN.{_+ℤ_, _-ℤ_}
 use lib.Signed.{ltZ}
 use lib.Bits.{bitAnd, bitOr, bitXor}
-use Rattle.word.specs.Word.{if_then_else_, bit, signed, plus, minus, within}
+use Rattle.word.specs.Word.{if_then_else_, isSet, signed, plus, minus, within}
 use Rattle.units.specs.Control.{Line, line, choose}
 
 -- the result column at the operands a and b; i says that the instruction is of I-type
@@ -43,7 +43,7 @@ abbrev pub conLow : Bool → ℕ → ℕ
 conLow r w = if r then w % 2 ^ 3 else w / 2 ^ 26 % 2 ^ 3
 
 abbrev pub conHigh : Bool → ℕ → Bool
-conHigh r w = (r && bit w 3) || (not (bit w 28) && bit w 27)
+conHigh r w = (r && isSet w 3) || (not (isSet w 28) && isSet w 27)
 
 unfoldable pub alucon : Bool → ℕ → ℕ
 alucon r w = (if conHigh r w then 2 ^ 3 else 0) + conLow r w

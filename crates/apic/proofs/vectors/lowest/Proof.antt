@@ -4,7 +4,8 @@ use mathlib.Core.Path.{sym, _∙_}
 use Prim.Native.Nat.{ℕ, _+_, _*_, _-_, _≤_}
 use native.Mathlib.Omega.{arith}
 use lib.ListN.{getD}
-use Rattle.apic.specs.Vectors.{bit, bitAt}
+use Rattle.word.specs.Word.{bit}
+use Rattle.apic.specs.Vectors.{bitAt}
 use Rattle.apic.proofs.Least.{Unset, found-none, set-below}
 use Rattle.apic.proofs.Words.{word-clear, word-found}
 use Rattle.apic.proofs.vectors.lowest.Statement.{statement}

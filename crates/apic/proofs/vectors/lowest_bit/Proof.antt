@@ -3,7 +3,7 @@ use mathlib.Core.Path.{_≡_, sym, ap, _∙_}
 use Prim.Native.Nat.{ℕ, _-_, _≤_}
 use native.Mathlib.Omega.{arith}
 use borrow.Author.Count.{below-more}
-use Rattle.apic.specs.Vectors.{bit}
+use Rattle.word.specs.Word.{bit}
 use Rattle.apic.proofs.Bits.{bit-zero}
 use Rattle.apic.proofs.Least.{Unset, found-at, found-none}
 use Rattle.apic.proofs.vectors.lowest_bit.Statement.{statement}
