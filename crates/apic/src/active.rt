@@ -149,8 +149,8 @@ pub fn init_core(b: &mut [u32])
     ensures { λ _. ⌜ now (b .exit) ≡ s.initCore (now (b .entry)) ⌝ }
 {
     b[layout::PC] = 0;
-    b[layout::SPR + 7] = 0;
-    b[layout::SPR + 2] = 0;
+    b[layout::SPR + layout::MODE] = 0;
+    b[layout::SPR + layout::ECA] = 0;
     b[layout::RUNNING] = 0;
     b[layout::INITRR] = 0;
 }

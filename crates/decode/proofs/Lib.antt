@@ -1,3 +1,4 @@
 pub mod Rows
 pub mod Numbers
 pub mod Types
+pub mod Apart

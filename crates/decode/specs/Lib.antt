@@ -1,4 +1,3 @@
 pub mod Fields
 pub mod Table
 pub mod Mnemonics
-pub mod Apart

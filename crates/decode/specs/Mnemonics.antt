@@ -63,8 +63,8 @@ branchNumber Bgtz = 21
 abbrev jumpNumber : Jump → ℕ
 jumpNumber J = 22
 jumpNumber Jal = 23
-jumpNumber Jr = 45
-jumpNumber Jalr = 46
+jumpNumber Jr = 46
+jumpNumber Jalr = 47
 
 abbrev shiftNumber : Shift → ℕ
 shiftNumber Sll = 24
@@ -75,8 +75,8 @@ shiftNumber Srlv = 28
 shiftNumber Srav = 29
 
 abbrev multiplyNumber : Multiply → ℕ
-multiplyNumber Mult = 33
-multiplyNumber Multu = 34
+multiplyNumber Mult = 34
+multiplyNumber Multu = 35
 multiplyNumber Madd = 53
 multiplyNumber Maddu = 54
 multiplyNumber Mul = 55
@@ -84,31 +84,31 @@ multiplyNumber Msub = 56
 multiplyNumber Msubu = 57
 
 abbrev moveNumber : Move → ℕ
-moveNumber Mfhi = 52
-moveNumber Mthi = 30
-moveNumber Mflo = 31
-moveNumber Mtlo = 32
+moveNumber Mfhi = 30
+moveNumber Mthi = 31
+moveNumber Mflo = 32
+moveNumber Mtlo = 33
 moveNumber Movg2s = 59
 moveNumber Movs2g = 60
 
 abbrev aluNumber : Alu → ℕ
-aluNumber Add = 35
-aluNumber Addu = 36
-aluNumber Sub = 37
-aluNumber Subu = 38
-aluNumber And = 39
-aluNumber Or = 40
-aluNumber Xor = 41
-aluNumber Nor = 42
-aluNumber Slt = 43
-aluNumber Sltu = 44
+aluNumber Add = 36
+aluNumber Addu = 37
+aluNumber Sub = 38
+aluNumber Subu = 39
+aluNumber And = 40
+aluNumber Or = 41
+aluNumber Xor = 42
+aluNumber Nor = 43
+aluNumber Slt = 44
+aluNumber Sltu = 45
 
 abbrev systemNumber : System → ℕ
-systemNumber Sysc = 47
-systemNumber Cas = 48
-systemNumber Mfence = 49
-systemNumber Flush = 50
-systemNumber Invlpg = 51
+systemNumber Sysc = 48
+systemNumber Cas = 49
+systemNumber Mfence = 50
+systemNumber Flush = 51
+systemNumber Invlpg = 52
 systemNumber Eret = 58
 
 abbrev pub number : Instruction → ℕ

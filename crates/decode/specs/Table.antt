@@ -2,7 +2,7 @@
 -- An instruction is the one whose printed codes all match; a word that matches none is illegal.
 -- Assumes nothing.
 use mathlib.Core.Bool.{Bool, true, false, _&&_}
-use mathlib.Core.List.{List, [], _∷_, _++_, map}
+use mathlib.Core.List.{List, [], _∷_, _++_}
 use Prim.Native.Nat.{ℕ}
 use lib.Dec.{eqb}
 use Rattle.word.specs.Word.{if_then_else_}
@@ -95,6 +95,7 @@ table3 =
     row (is 0b000000) (is 0b000100) blank blank (Instruction.Shift Sllv) ∷
     row (is 0b000000) (is 0b000110) blank blank (Instruction.Shift Srlv) ∷
     row (is 0b000000) (is 0b000111) blank blank (Instruction.Shift Srav) ∷
+    row (is 0b000000) (is 0b010000) blank blank (Instruction.Move Mfhi) ∷
     row (is 0b000000) (is 0b010001) blank blank (Instruction.Move Mthi) ∷
     row (is 0b000000) (is 0b010010) blank blank (Instruction.Move Mflo) ∷
     row (is 0b000000) (is 0b010011) blank blank (Instruction.Move Mtlo) ∷
@@ -123,7 +124,6 @@ table3 =
 abbrev pub table4 : List Row
 table4 =
     --  opcode fun rs rt
-    row (is 0b000000) (is 0b010000) blank blank (Instruction.Move Mfhi) ∷
     row (is 0b011100) (is 0b000000) blank blank (Instruction.Multiply Madd) ∷
     row (is 0b011100) (is 0b000001) blank blank (Instruction.Multiply Maddu) ∷
     row (is 0b011100) (is 0b000010) blank blank (Instruction.Multiply Mul) ∷

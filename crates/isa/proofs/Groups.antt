@@ -13,7 +13,7 @@ use Rattle.decode.specs.declared.System.the-variants.{Cas}
 use Rattle.decode.specs.declared.Instruction.{Instruction}
 use Rattle.decode.specs.declared.Instruction.the-variants.{Illegal}
 use Rattle.decode.specs.Table.{table}
-use Rattle.decode.specs.Mnemonics.{among, itype, rtype, compi, compr, alu, ill, sysc}
+use Rattle.decode.specs.Mnemonics.{among, itype, rtype, compi, compr, alu, ill, sysc, eret}
 use Rattle.decode.proofs.Numbers.{everywhere, every}
 use Rattle.isa.specs.Core.{d, mal}
 use Rattle.isa.specs.Interrupts.{privileged}
@@ -73,6 +73,10 @@ systemGroup p Illegal = false
 pub sysc-group : (i : Instruction) → sysc i ≡ systemGroup sysc i
 unfolding sysc
 sysc-group = by-groups sysc (systemGroup sysc) tt
+
+pub eret-group : (i : Instruction) → eret i ≡ systemGroup eret i
+unfolding eret
+eret-group = by-groups eret (systemGroup eret) tt
 
 abbrev pub illGroup : Instruction → Bool
 illGroup (Instruction.Load x) = false

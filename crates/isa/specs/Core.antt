@@ -14,14 +14,14 @@ use Rattle.decode.specs.declared.Jump.the-variants.{Jr, Jalr}
 use Rattle.decode.specs.declared.Instruction.{Instruction}
 use Rattle.decode.specs.Fields.{rs, rt, rd, sa, imm, iindex}
 use Rattle.decode.specs.Table.{decoded}
-use Rattle.decode.specs.Mnemonics.{among, itype, rtype, alu, mulacc, b, jump, su, load, store, cas, jal, jalr, movg2s, movs2g, mfhi, mflo, mthi, mtlo, mul}
-use Rattle.units.specs.Alu.{alures, ovf, alucon}
+use Rattle.decode.specs.Mnemonics.{among, itype, rtype, alu, mulacc, b, jump, su, load, cas, jal, jalr, movg2s, movs2g, mfhi, mflo, mthi, mtlo, mul}
+use Rattle.units.specs.Alu.{alures, alucon}
 use Rattle.units.specs.Multiplication.{mures, mulcon}
 use Rattle.units.specs.Branch.{bcres, bcon}
 use Rattle.units.specs.Shift.{sures, sf}
 use Rattle.isa.specs.declared.registers.Registers.{Registers}
 
--- a general, a special register
+-- definition 21: a general, a special register of a core
 abbrev pub gprAt : Registers → ℕ → ℕ
 gprAt c x = getD (c .gpr) x 0
 
@@ -44,7 +44,7 @@ lop c w = gprAt c (rs w)
 
 -- r says that the instruction is of R-type
 abbrev pub rop : Bool → Registers → ℕ → ℕ
-rop r c w = if r then gprAt c (rt w) else if not (isSet w 28) then sxt 15 (imm w) else imm w
+rop r c w = if r then gprAt c (rt w) else if not (isSet w 28) then sxt 16 (imm w) else imm w
 
 -- definition 29
 abbrev pub compres : Instruction → Registers → ℕ → ℕ
@@ -61,7 +61,7 @@ jbtaken i c w = jump i || (b i && bcres (gprAt c (rs w)) (gprAt c (rt w)) (bcon 
 -- definition 34
 abbrev pub btarget : Instruction → Registers → ℕ → ℕ
 btarget i c w =
-    if b i then plus 32 (c .pc) (sll (sxt 15 (imm w)) 2)
+    if b i then plus 32 (c .pc) (sll (sxt 16 (imm w)) 2)
     else if among i (Instruction.Jump Jr ∷ Instruction.Jump Jalr ∷ []) then gprAt c (rs w)
     else after c / 2 ^ 28 * 2 ^ 28 + iindex w * 2 ^ 2
 
@@ -76,7 +76,7 @@ slop c w = gprAt c (rt w)
 
 -- definition 40: of I-type or not; d is 0 where there is no access
 abbrev pub eaOf : Bool → Registers → ℕ → ℕ
-eaOf t c w = if t then plus 32 (gprAt c (rs w)) (sxt 15 (imm w)) else gprAt c (rs w)
+eaOf t c w = if t then plus 32 (gprAt c (rs w)) (sxt 16 (imm w)) else gprAt c (rs w)
 
 abbrev pub ea : Instruction → Registers → ℕ → ℕ
 ea i c w = eaOf (itype i) c w
@@ -98,7 +98,7 @@ mal i a =
 unfoldable pub lv : Instruction → ℕ → ℕ
 lv i R =
     if among i (Instruction.Load Lbu ∷ Instruction.Load Lhu ∷ []) then R % 2 ^ (8 * d i)
-    else sxt (8 * d i - 1) (R % 2 ^ (8 * d i))
+    else sxt (8 * d i) (R % 2 ^ (8 * d i))
 
 -- definition 44
 abbrev pub sv : Instruction → Registers → ℕ → ℕ

@@ -1,4 +1,4 @@
--- The words of the tables: a header, then a block of 256 words for each core.
+-- The words of the tables (01, 'The machine in lent memory'): a header, then a block of 256 words for each core.
 -- Assumes nothing.
 use Prim.Native.Nat.{ℕ, _+_, _*_}
 

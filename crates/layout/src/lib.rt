@@ -56,3 +56,20 @@ pub const LOCAL_PORT_BYTES: usize = 128;
 pub const IO_PORTS: usize = 0xFFFF_E000;
 
 pub const IO_PORT_BYTES: usize = 8;
+
+// Special registers (table 5).
+pub const SR: usize = 0;
+
+pub const ESR: usize = 1;
+
+pub const ECA: usize = 2;
+
+pub const EPC: usize = 3;
+
+pub const EDATA: usize = 4;
+
+pub const PTO: usize = 5;
+
+pub const ASID: usize = 6;
+
+pub const MODE: usize = 7;

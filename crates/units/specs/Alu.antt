@@ -7,7 +7,7 @@ use lib.Dec.{ltb}
 use lib.IntN.{_+ℤ_, _-ℤ_}
 use lib.Signed.{ltZ}
 use lib.Bits.{bitAnd, bitOr, bitXor}
-use Rattle.word.specs.Word.{if_then_else_, isSet, signed, plus, minus, within}
+use Rattle.word.specs.Word.{if_then_else_, field, isSet, signed, plus, minus, within}
 use Rattle.units.specs.Control.{Line, line, choose}
 
 -- the result column at the operands a and b; i says that the instruction is of I-type
@@ -21,15 +21,15 @@ results a b i =
     line 0b0101 (bitOr a b) ∷
     line 0b0110 (bitXor a b) ∷
     line 0b0111 (if i then b % 2 ^ 16 * 2 ^ 16 else 2 ^ 32 - 1 - bitOr a b) ∷
-    line 0b1010 (if ltZ (signed 31 a) (signed 31 b) then 1 else 0) ∷
+    line 0b1010 (if ltZ (signed 32 a) (signed 32 b) then 1 else 0) ∷
     line 0b1011 (if ltb a b then 1 else 0) ∷
     []
 
 -- the overflow column; the lines that it leaves out are 0
 abbrev pub overflows : ℕ → ℕ → List (Line Bool)
 overflows a b =
-    line 0b0001 (not (within 31 (signed 31 a +ℤ signed 31 b))) ∷
-    line 0b0011 (not (within 31 (signed 31 a -ℤ signed 31 b))) ∷
+    line 0b0001 (not (within 32 (signed 32 a +ℤ signed 32 b))) ∷
+    line 0b0011 (not (within 32 (signed 32 a -ℤ signed 32 b))) ∷
     []
 
 unfoldable pub alures : ℕ → ℕ → ℕ → Bool → ℕ
@@ -40,7 +40,7 @@ ovf a b alucon = choose false (overflows a b) alucon
 
 -- definition 28; r says that the instruction is of R-type
 abbrev pub conLow : Bool → ℕ → ℕ
-conLow r w = if r then w % 2 ^ 3 else w / 2 ^ 26 % 2 ^ 3
+conLow r w = if r then w % 2 ^ 3 else field 28 26 w
 
 abbrev pub conHigh : Bool → ℕ → Bool
 conHigh r w = (r && isSet w 3) || (not (isSet w 28) && isSet w 27)

@@ -13,16 +13,16 @@ use Rattle.units.specs.Control.{Line, line, choose}
 -- the table at a and b; a line with * stands at both values of that bit
 abbrev pub conditions : ℕ → ℕ → List (Line Bool)
 conditions a b =
-    line 0b0010 (ltZ (signed 31 a) (pos 0)) ∷
-    line 0b0011 (leZ (pos 0) (signed 31 a)) ∷
+    line 0b0010 (ltZ (signed 32 a) (pos 0)) ∷
+    line 0b0011 (leZ (pos 0) (signed 32 a)) ∷
     line 0b1000 (eqb a b) ∷
     line 0b1001 (eqb a b) ∷
     line 0b1010 (not (eqb a b)) ∷
     line 0b1011 (not (eqb a b)) ∷
-    line 0b1100 (leZ (signed 31 a) (pos 0)) ∷
-    line 0b1101 (leZ (signed 31 a) (pos 0)) ∷
-    line 0b1110 (ltZ (pos 0) (signed 31 a)) ∷
-    line 0b1111 (ltZ (pos 0) (signed 31 a)) ∷
+    line 0b1100 (leZ (signed 32 a) (pos 0)) ∷
+    line 0b1101 (leZ (signed 32 a) (pos 0)) ∷
+    line 0b1110 (ltZ (pos 0) (signed 32 a)) ∷
+    line 0b1111 (ltZ (pos 0) (signed 32 a)) ∷
     []
 
 unfoldable pub bcres : ℕ → ℕ → ℕ → Bool

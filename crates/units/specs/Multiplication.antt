@@ -3,13 +3,13 @@
 use mathlib.Core.List.{List, [], _∷_}
 use Prim.Native.Nat.{ℕ, _+_, _*_, _/_, _%_, _^_}
 use lib.IntN.{_*ℤ_}
-use Rattle.word.specs.Word.{signed, twoc, plus, minus}
+use Rattle.word.specs.Word.{bit, signed, twoc, plus, minus}
 use Rattle.decode.specs.Fields.{opc, fun}
 use Rattle.units.specs.Control.{Line, line, choose}
 
--- the two products, in 64 bits
+-- the two products of words of 32 bits, in 64 bits
 abbrev pub signedProduct : ℕ → ℕ → ℕ
-signedProduct a b = twoc 64 (signed 31 a *ℤ signed 31 b)
+signedProduct a b = twoc 64 (signed 32 a *ℤ signed 32 b)
 
 abbrev pub unsignedProduct : ℕ → ℕ → ℕ
 unsignedProduct a b = a * b
@@ -30,4 +30,4 @@ mures a b cd mulcon = choose 0 (products a b cd) mulcon
 
 -- definition 30: (opc[2] ⊕ fun[1]) ∘ fun[2] ∘ fun[0]; ⊕ of two bits is their sum modulo 2
 abbrev pub mulcon : ℕ → ℕ
-mulcon w = (opc w / 2 ^ 2 % 2 + fun w / 2 ^ 1 % 2) % 2 * 2 ^ 2 + fun w / 2 ^ 2 % 2 * 2 + fun w % 2
+mulcon w = (bit (opc w) 2 + bit (fun w) 1) % 2 * 2 ^ 2 + bit (fun w) 2 * 2 + fun w % 2

@@ -1,7 +1,6 @@
 // The ALU, by its control bits.
 ghost use mathlib.Core.Path.{_≡_};
 ghost use Prim.Native.Nat.{_<_, _^_};
-ghost use Rattle.word.specs.Word.{if_then_else_};
 ghost use Rattle.units.specs.Alu.{alures, ovf, alucon, conLow, conHigh};
 
 fn control_low(rtype: bool, w: u32) -> u32
@@ -21,12 +20,6 @@ pub fn control(rtype: bool, w: u32) -> u32
 {
     let low = control_low(rtype, w);
     if control_high(rtype, w) { 8 + low } else { low }
-}
-
-pub fn flag(b: bool) -> u32
-    ensures { λ r. ⌜ (r ≡ (if b then 1 else 0)) × (r < 2) ⌝ }
-{
-    if b { 1 } else { 0 }
 }
 
 fn nor_or_high(a: u32, b: u32, itype: bool) -> u32
@@ -51,8 +44,8 @@ pub fn result(a: u32, b: u32, con: u32, itype: bool) -> u32
         0b0101 => a | b,
         0b0110 => a ^ b,
         0b0111 => nor_or_high(a, b, itype),
-        0b1010 => flag(word::less(a, b)),
-        0b1011 => flag(a < b),
+        0b1010 => word::flag(word::less(a, b)),
+        0b1011 => word::flag(a < b),
         _ => 0,
     }
 }

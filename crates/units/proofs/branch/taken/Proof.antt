@@ -34,7 +34,7 @@ returns c = c .less .ensures ∙ by-control false (conditions (c .before .before
 
 returns-2 : tie.Need-returns-2
 unfolding bcres signed
-returns-2 c = ap not (c .less2 .ensures) ∙ not-less (signed 31 (c .before .before .args .a)) (pos 0) ∙ by-control false (conditions (c .before .before .args .a) (c .before .before .args .b)) (c .before .match .keys2)
+returns-2 c = ap not (c .less2 .ensures) ∙ not-less (signed 32 (c .before .before .args .a)) (pos 0) ∙ by-control false (conditions (c .before .before .args .a) (c .before .before .args .b)) (c .before .match .keys2)
 
 returns-3 : tie.Need-returns-3
 unfolding bcres
@@ -54,11 +54,11 @@ returns-6 c = by-control false (conditions (c .before .args .a) (c .before .args
 
 returns-7 : tie.Need-returns-7
 unfolding bcres signed
-returns-7 c = ap not (c .less3 .ensures) ∙ not-less (pos 0) (signed 31 (c .before .before .args .a)) ∙ by-control false (conditions (c .before .before .args .a) (c .before .before .args .b)) (c .before .match .keys7)
+returns-7 c = ap not (c .less3 .ensures) ∙ not-less (pos 0) (signed 32 (c .before .before .args .a)) ∙ by-control false (conditions (c .before .before .args .a) (c .before .before .args .b)) (c .before .match .keys7)
 
 returns-8 : tie.Need-returns-8
 unfolding bcres signed
-returns-8 c = ap not (c .less4 .ensures) ∙ not-less (pos 0) (signed 31 (c .before .before .args .a)) ∙ by-control false (conditions (c .before .before .args .a) (c .before .before .args .b)) (c .before .match .keys8)
+returns-8 c = ap not (c .less4 .ensures) ∙ not-less (pos 0) (signed 32 (c .before .before .args .a)) ∙ by-control false (conditions (c .before .before .args .a) (c .before .before .args .b)) (c .before .match .keys8)
 
 returns-9 : tie.Need-returns-9
 unfolding bcres signed
