@@ -67,7 +67,7 @@ block-long k =
     let b : List ℕ = replicate 256 0 in
     chained-long 30 (set (set (set b 67 (madeRunning k)) 70 1) 72 (k * 2 ^ 24)) ∙ simp length-set
 
-blocks-long : (k : ℕ) → length (madeBlocks k) ≡ 256 * k
+pub blocks-long : (k : ℕ) → length (madeBlocks k) ≡ 256 * k
 unfolding madeBlocks
 blocks-long zero = refl
 blocks-long (suc k) = length-append (madeBlocks k) (madeBlock k) ∙ omega (arith, blocks-long k, block-long k)

@@ -3,3 +3,5 @@ pub mod Fresh
 pub mod Blocks
 pub mod Parts
 pub mod Answers
+pub mod Lift
+pub mod Reset
