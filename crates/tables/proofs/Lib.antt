@@ -5,3 +5,6 @@ pub mod Parts
 pub mod Answers
 pub mod Lift
 pub mod Reset
+pub mod Places
+pub mod Steps
+pub mod Bank
