@@ -166,6 +166,10 @@ takeStore b = release b storeHead
 unfoldable pub addWalk : List ℕ → Walk → List ℕ
 addWalk b w = elim (among w (walks b)) [ true ↦ b | false ↦ insert b walkHead (w .first) (w .second) 0 ]
 
+-- the walks after it
+unfoldable pub withWalk : Walk → List Walk → List Walk
+withWalk w l = elim (among w l) [ true ↦ l | false ↦ w ∷ l ]
+
 -- a walk's first word is va * 4096 + asid * 64 + level * 8 + rights
 abbrev pub pageOf : ℕ → ℕ
 pageOf first = first / 64
