@@ -1,7 +1,7 @@
 -- Sound records stay sound under each operation.
 -- Assumes nothing.
-use mathlib.Core.Path.{_≡_, refl, sym, ap, subst, _∙_}
-use Prim.Native.Nat.{ℕ, zero, suc, _<_, _≤_}
+use mathlib.Core.Path.{_≡_, refl, sym, ap, _∙_}
+use Prim.Native.Nat.{ℕ, _<_}
 use mathlib.Core.Bool.{Bool, true, false, _&&_, _||_, not, true≢false}
 use mathlib.Core.List.{List, [], _∷_, _++_}
 use lib.ListN.{length, drop}
@@ -10,7 +10,7 @@ use Rattle.records.specs.declared.Store.{Store}
 use Rattle.records.specs.declared.Walk.{Walk}
 use Rattle.records.specs.declared.Flush.{Flush}
 use Rattle.records.specs.declared.Flush.the-variants.{All}
-use Rattle.records.specs.Records.{all, stores, walks, linked, same, among, differing, goes, staying, withWalk, putStore, takeStore, addWalk, dropWalks}
+use Rattle.records.specs.Records.{all, stores, walks, same, among, differing, goes, staying, withWalk, putStore, takeStore, addWalk, dropWalks}
 use Rattle.records.specs.Contents.{storeSound, walkSound, soundRecords}
 use Rattle.records.proofs.Counts.{and-left, and-right, and-both}
 use Rattle.records.proofs.Laws.{After, take-law, put-law, add-law, drop-law}

@@ -1,18 +1,15 @@
 -- The answers of Make, test by test.
 -- Assumes nothing.
-use mathlib.Core.Path.{_≡_, refl, sym, ap, _∙_}
-use mathlib.Core.Logic.{_≢_, ⊎-elim}
-use Prim.Native.Nat.{ℕ, _+_, _*_, _/_, _%_, _<_, _≤_}
+use mathlib.Core.Path.{_≡_, refl, ap, _∙_}
+use mathlib.Core.Logic.{_≢_}
+use Prim.Native.Nat.{ℕ, _+_, _*_, _/_, _%_, _≤_}
 use mathlib.Core.Bool.{Bool, true, false, _&&_, _||_, not}
-use mathlib.Core.List.{List}
 use native.Mathlib.Omega.{arith}
 use native.Mathlib.Decide.{decLt}
-use lib.ListN.{length}
 use lib.Dec.{eqb, ltb, leb}
 use borrow.Author.Tests.{lt-ltb, le-ltb, le-leb, lt-leb, leb-true, eq-eqb, ne-eqb}
 use Rattle.layout.specs.Layout as at
 use Rattle.records.proofs.Counts.{either, and-right}
-use Rattle.tables.specs.declared.make.Made.{Made}
 use Rattle.tables.specs.declared.make.Made.the-variants.{Done, Cores, Memory, Length}
 use Rattle.tables.specs.Sound.{upTo}
 use Rattle.tables.specs.Make.{answer, wholePages}

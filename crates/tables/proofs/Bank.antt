@@ -1,8 +1,8 @@
 -- Other registers in a block: they are those that were put in, and all else stays.
 -- Assumes nothing.
-use mathlib.Core.Path.{_≡_, refl, sym, ap, _∙_}
-use Prim.Native.Nat.{ℕ, zero, suc, _+_, _-_, _*_, _<_, _≤_}
-use mathlib.Core.Bool.{Bool, true}
+use mathlib.Core.Path.{_≡_, sym, ap, _∙_}
+use Prim.Native.Nat.{ℕ, _+_, _-_, _≤_}
+use mathlib.Core.Bool.{true}
 use mathlib.Core.List.{List, [], _∷_, _++_}
 use native.Mathlib.Omega.{arith}
 use lib.ListN.{length, getD, take, drop, length-append, length-take, length-drop, take-append-drop, List·getD-append}
@@ -14,7 +14,7 @@ use Rattle.records.proofs.Frame.{Alike, same-stores, same-walks, same-sound}
 use Rattle.tables.specs.Views.{registersOf, withRegisters}
 use Rattle.tables.specs.Sound.{soundBlock}
 use Rattle.tables.proofs.Parts.{words-of, records-of, of-parts}
-use Rattle.tables.proofs.Places.{Words, words-facts, facts-words, run-same}
+use Rattle.tables.proofs.Places.{words-facts, facts-words, run-same}
 
 -- the registers of a block are 32 of each kind
 module _ (b : List ℕ) (long : length b ≡ 256) where

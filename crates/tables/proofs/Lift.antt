@@ -1,10 +1,10 @@
 -- Sound tables and their blocks: a block of sound tables is sound, and a sound block put in leaves them sound.
 -- Assumes nothing.
-use mathlib.Core.Path.{_≡_, refl, sym, ap, subst, _∙_}
-use mathlib.Core.Logic.{_≢_, ⊎-elim, _⊎_, inl, inr}
-use Prim.Native.Nat.{ℕ, zero, suc, _+_, _-_, _*_, _^_, _<_, _≤_}
-use mathlib.Core.Bool.{Bool, true, false, _&&_}
-use mathlib.Core.List.{List, _∷_, _++_}
+use mathlib.Core.Path.{_≡_, sym, ap, _∙_}
+use mathlib.Core.Logic.{_≢_, ⊎-elim, _⊎_}
+use Prim.Native.Nat.{ℕ, _+_, _-_, _*_, _^_, _<_, _≤_}
+use mathlib.Core.Bool.{true, _&&_}
+use mathlib.Core.List.{List}
 use native.Mathlib.Omega.{arith}
 use native.Mathlib.Decide.{ℕ-discrete}
 use lib.ListN.{length, getD, set, length-set}
@@ -13,8 +13,7 @@ use lib.Dec.{eqb}
 use Rattle.layout.specs.Layout as at
 use Rattle.records.proofs.Counts.{either}
 use Rattle.tables.specs.Views.{coresOf, pagesOf, linesOf, block, withBlock}
-use Rattle.tables.specs.Sound.{zeroFrom, soundBlock, soundBlocks, soundHeader, sound}
-use Rattle.tables.specs.Make.{madeBlock, madeBlocks, made, chained}
+use Rattle.tables.specs.Sound.{soundBlock, sound}
 use Rattle.tables.proofs.Blocks.{block-long, with-long, with-block, with-other, with-header, set-block}
 use Rattle.tables.proofs.Parts.{Header, header-of, of-header, blocks-elim, blocks-intro, sound-header, sound-blocks, of-sound}
 

@@ -1,21 +1,20 @@
 -- Sound tables by their parts, and the parts by facts.
 -- Assumes nothing.
-use mathlib.Core.Path.{_≡_, refl, sym, ap, subst, _∙_}
-use mathlib.Core.Logic.{⊎-elim, _⊎_, inl, inr}
+use mathlib.Core.Path.{_≡_, refl, sym, ap, _∙_}
 use Prim.Native.Nat.{ℕ, zero, suc, _+_, _-_, _*_, _^_, _<_, _≤_}
 use mathlib.Core.Bool.{Bool, true, false, _&&_}
 use mathlib.Core.List.{List}
 use native.Mathlib.Omega.{arith}
 use native.Mathlib.Decide.{ℕ-discrete}
-use lib.ListN.{length, getD}
-use lib.Dec.{eqb, ltb, leb}
+use lib.ListN.{length}
+use lib.Dec.{eqb, leb}
 use borrow.Author.Tests.{eq-eqb, eqb-true, lt-ltb, ltb-true, le-leb, leb-true}
 use Rattle.layout.specs.Layout as at
 use Rattle.records.specs.Contents.{soundRecords}
 use Rattle.records.proofs.Counts.{and-left, and-right, and-both, either}
 use Rattle.records.proofs.Whole.{fails}
-use Rattle.tables.specs.Views.{coresOf, pagesOf, linesOf, runningOf, sipirrOf, sipivectOf, initrrOf, block}
-use Rattle.tables.specs.Sound.{zeroFrom, upTo, flag, soundWords, soundBlock, soundBlocks, soundHeader, sound}
+use Rattle.tables.specs.Views.{coresOf, pagesOf, linesOf, block}
+use Rattle.tables.specs.Sound.{zeroFrom, upTo, soundWords, soundBlock, soundBlocks, soundHeader, sound}
 
 -- ---- the header
 

@@ -2,20 +2,19 @@
 -- Assumes nothing.
 use mathlib.Core.Path.{_≡_, refl, sym, ap, _∙_}
 use mathlib.Core.Logic.{_≢_, ⊎-elim, _⊎_, inl, inr}
-use Prim.Native.Nat.{ℕ, zero, suc, _+_, _*_, _<_, _≤_}
-use mathlib.Core.Bool.{Bool, true, false, _&&_}
+use Prim.Native.Nat.{ℕ, zero, suc, _+_, _<_, _≤_}
+use mathlib.Core.Bool.{true}
 use mathlib.Core.List.{List}
 use native.Mathlib.Omega.{arith}
 use native.Mathlib.Decide.{ℕ-discrete}
 use lib.ListN.{length, getD, set, take, drop, length-set, length-take, length-drop}
 use lib.Seq.{getD-set-other, getD-set-same, ext-getD, getD-take, getD-drop}
-use lib.Dec.{eqb, ltb, leb}
+use lib.Dec.{eqb}
 use borrow.Author.Tests.{eq-eqb, eqb-true, lt-ltb, ltb-true, le-leb, leb-true}
 use Rattle.layout.specs.Layout as at
-use Rattle.records.specs.Records.{stores, walks, linked}
-use Rattle.records.specs.Contents.{soundRecords}
+use Rattle.records.specs.Records.{stores, walks}
 use Rattle.records.proofs.Counts.{either, and-left, and-right, and-both}
-use Rattle.records.proofs.Frame.{Alike, set-alike, same-stores, same-walks, same-linked, same-sound}
+use Rattle.records.proofs.Frame.{Alike, set-alike, same-stores, same-walks, same-sound}
 use Rattle.tables.specs.Views.{runningOf, sipirrOf, sipivectOf, initrrOf, registersOf}
 use Rattle.tables.specs.Sound.{zeroFrom, flag, soundWords, soundBlock}
 use Rattle.tables.proofs.Parts.{words-of, records-of, of-parts}

@@ -1,18 +1,18 @@
 -- Made tables are sound.
 -- Assumes nothing.
-use mathlib.Core.Path.{_≡_, refl, sym, ap, _∙_}
-use Prim.Native.Nat.{ℕ, zero, suc, _+_, _*_, _^_, _<_, _≤_}
-use mathlib.Core.Bool.{Bool, true}
-use mathlib.Core.List.{List, [], _∷_, _++_}
+use mathlib.Core.Path.{_≡_, refl, ap, _∙_}
+use Prim.Native.Nat.{ℕ, zero, suc, _+_, _*_, _<_, _≤_}
+use mathlib.Core.Bool.{true}
+use mathlib.Core.List.{_∷_}
 use native.Mathlib.Omega.{arith}
 use native.Mathlib.Decide.{ℕ-discrete}
 use lib.ListN.{length, take, drop, replicate, length-append, length-drop}
-use lib.Seq.{take-at, drop-at, take-all, take-append-le, drop-append-le, drop-append-add}
+use lib.Seq.{drop-at, take-all, take-append-le, drop-append-le, drop-append-add}
 use Rattle.records.specs.Records.{chain, count, each, all, stores, walks, among, differing, linked}
 use Rattle.records.specs.Contents.{soundRecords, storeSound, walkSound}
 use Rattle.records.proofs.Counts.{either}
 use Rattle.tables.specs.Views.{block}
-use Rattle.tables.specs.Sound.{soundWords, soundBlock, soundBlocks, sound}
+use Rattle.tables.specs.Sound.{soundWords, soundBlock, sound}
 use Rattle.tables.specs.Make.{chained, madeBlock, madeBlocks, made}
 use Rattle.tables.proofs.Fresh.{block-long, blocks-long}
 use Rattle.tables.proofs.Parts.{of-header, blocks-intro, of-sound}

@@ -3,8 +3,8 @@
 use Prim.Native.Nat.{ℕ, zero, suc, _+_, _*_, _/_, _%_, _^_}
 use mathlib.Core.Bool.{Bool, true, false, _&&_}
 use mathlib.Core.List.{List, [], _∷_, _++_}
-use lib.ListN.{length, set, replicate}
-use lib.Dec.{eqb, leb}
+use lib.ListN.{set, replicate}
+use lib.Dec.{eqb}
 use Rattle.layout.specs.Layout as at
 use Rattle.tables.specs.declared.make.Made.{Made}
 use Rattle.tables.specs.declared.make.Made.the-variants.{Done, Cores, Memory, Length}

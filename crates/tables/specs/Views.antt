@@ -1,9 +1,9 @@
 -- What the words of the tables are: the block of a core, its registers and its APIC, and the header.
 -- The pending stores and walks of a block are views of the crate records.
 -- Assumes nothing.
-use Prim.Native.Nat.{ℕ, _+_, _*_, _/_, _%_, _^_}
+use Prim.Native.Nat.{ℕ, _+_, _/_, _%_, _^_}
 use mathlib.Core.List.{List, _∷_, _++_}
-use lib.ListN.{length, getD, take, drop}
+use lib.ListN.{getD, take, drop}
 use Rattle.layout.specs.Layout as at
 use Rattle.isa.specs.declared.registers.Registers.{Registers}
 

@@ -13,7 +13,7 @@ use layout::RECORDS;
 use layout::RUNNING;
 ghost use mathlib.Core.Path.{_≡_};
 ghost use mathlib.Core.List.{_∷_, _++_};
-ghost use Prim.Native.Nat.{ℕ, _+_, _*_, _<_, _≤_};
+ghost use Prim.Native.Nat.{_+_, _*_, _<_, _≤_};
 ghost use lib.ListN.{length, drop, replicate};
 ghost use Rattle.layout.specs.Layout.{tableWords, blockAt, blockWords};
 ghost use Rattle.tables.specs.Views.{withBlock};

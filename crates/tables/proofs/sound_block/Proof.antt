@@ -1,7 +1,7 @@
 -- `tables::sound_block` meets its contract, part by part.
 -- Assumes nothing.
 use borrow.Author.Needs.{needs}
-use mathlib.Core.Path.{_≡_, refl, sym, ap, _∙_}
+use mathlib.Core.Path.{_∙_}
 use borrow.Author.Tests.{not-true, not-false}
 use Rattle.tables.proofs.Parts.{block-words-fail, block-records}
 use Rattle.tables.proofs.sound_block.Statement.{statement}

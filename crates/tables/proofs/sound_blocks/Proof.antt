@@ -1,13 +1,12 @@
 -- `tables::sound_blocks` meets its contract. The invariant: the blocks of the first k cores decide.
 -- Assumes nothing.
 use mathlib.Core.Path.{_≡_, refl, sym, ap, _∙_}
-use Prim.Native.Nat.{ℕ, _+_, _-_, _<_, _≤_}
+use Prim.Native.Nat.{_-_, _≤_}
 use native.Mathlib.Omega.{arith}
 use mathlib.Core.Bool.{Bool, _&&_}
 use denote.Ref.{now}
 use borrow.Author.Tests.{not-true, not-false}
-use Rattle.tables.specs.Views.{block}
-use Rattle.tables.specs.Sound.{soundBlock, soundBlocks}
+use Rattle.tables.specs.Sound.{soundBlocks}
 use Rattle.tables.proofs.Parts.{blocks-step, blocks-none}
 use Rattle.tables.proofs.sound_blocks.Statement.{statement}
 use Rattle.tables.proofs.sound_blocks.Tie as tie

@@ -1,7 +1,7 @@
 -- `tables::sound_core` meets its contract: the block is lent as a part of the tables.
 -- Assumes nothing.
 use borrow.Author.Needs.{needs}
-use mathlib.Core.Path.{_≡_, refl, sym, ap, _∙_}
+use mathlib.Core.Path.{_∙_}
 use Rattle.tables.specs.Views.{block}
 use Rattle.tables.proofs.Blocks.{span}
 use Rattle.tables.proofs.sound_core.Statement.{statement}

@@ -1,7 +1,7 @@
 -- `tables::sound_words` meets its contract: it is the definition.
 -- Assumes nothing.
 use borrow.Author.Needs.{needs}
-use mathlib.Core.Path.{_≡_, refl, sym, ap, _∙_}
+use mathlib.Core.Path.{ap}
 use denote.Ref.{now}
 use mathlib.Core.Bool.{Bool, _&&_}
 use lib.ListN.{getD}

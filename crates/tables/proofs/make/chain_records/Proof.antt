@@ -1,7 +1,7 @@
 -- `tables::make::chain_records` meets its contract. The invariant: r records are chained.
 -- Assumes nothing.
-use mathlib.Core.Path.{_≡_, refl, sym, ap, _∙_}
-use Prim.Native.Nat.{ℕ, _+_, _-_, _<_, _≤_}
+use mathlib.Core.Path.{sym, _∙_}
+use Prim.Native.Nat.{_-_}
 use native.Mathlib.Omega.{arith}
 use Rattle.tables.proofs.Fresh.{Chaining, chaining-start, chaining-next, chaining-long, chaining-end}
 use Rattle.tables.proofs.make.chain_records.Statement.{statement}

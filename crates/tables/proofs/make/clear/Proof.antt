@@ -1,7 +1,6 @@
 -- `tables::make::clear` meets its contract. The invariant: i words are cleared.
 -- Assumes nothing.
-use mathlib.Core.Path.{_≡_, refl, sym, ap, _∙_}
-use Prim.Native.Nat.{ℕ, _+_, _-_, _<_, _≤_}
+use Prim.Native.Nat.{_-_}
 use native.Mathlib.Omega.{arith}
 use lib.ListN.{length}
 use Rattle.tables.proofs.Copy.{Cleared, clear-start, clear-next, clear-long, clear-end}

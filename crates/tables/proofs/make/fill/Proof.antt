@@ -1,7 +1,7 @@
 -- `tables::make::fill` meets its contract. The invariant: the blocks of the first k cores are made.
 -- Assumes nothing.
-use mathlib.Core.Path.{_≡_, refl, sym, ap, _∙_}
-use Prim.Native.Nat.{ℕ, _+_, _-_, _<_, _≤_}
+use mathlib.Core.Path.{sym, _∙_}
+use Prim.Native.Nat.{_-_}
 use native.Mathlib.Omega.{arith}
 use denote.Ref.{now}
 use Rattle.tables.proofs.Fresh.{Filling, filling-start, filling-next, filling-long, filling-end}

@@ -1,7 +1,6 @@
 -- `tables::make::make_core` meets its contract: the block is lent as a part of the tables.
 -- Assumes nothing.
 use borrow.Author.Needs.{needs}
-use mathlib.Core.Path.{_≡_, refl, sym, ap, _∙_}
 use Rattle.tables.specs.Views.{withBlock}
 use Rattle.tables.proofs.Blocks.{span}
 use Rattle.tables.proofs.make.make_core.Statement.{statement}

@@ -1,7 +1,6 @@
 -- `tables::make::make_header` meets its contract: 32 words are cleared, and two written.
 -- Assumes nothing.
 use borrow.Author.Needs.{needs}
-use mathlib.Core.Path.{_≡_, refl, sym, ap, _∙_}
 use native.Mathlib.Omega.{arith}
 use lib.ListN.{length-set}
 use Rattle.tables.proofs.Fresh.{header-made}

@@ -1,12 +1,12 @@
 -- `tables::registers::put_registers` meets its contract: two copies and three words.
 -- Assumes nothing.
 use borrow.Author.Needs.{needs}
-use mathlib.Core.Path.{_≡_, refl, sym, ap, _∙_}
+use mathlib.Core.Path.{ap, _∙_}
 use native.Mathlib.Omega.{arith}
 use denote.Ref.{now}
 use mathlib.Core.List.{List}
 use Prim.Native.Nat.{ℕ}
-use lib.ListN.{length, set, length-set}
+use lib.ListN.{set, length-set}
 use lib.Seq.{paste}
 use Rattle.tables.specs.Views.{withRegisters}
 use Rattle.tables.proofs.Copy.{all-words}

@@ -1,7 +1,6 @@
 -- `tables::registers::registers` meets its contract, field by field.
 -- Assumes nothing.
 use borrow.Author.Needs.{needs}
-use mathlib.Core.Path.{_≡_, refl, sym, ap, _∙_}
 use denote.Ref.{now}
 use lib.ListN.{getD}
 use Rattle.tables.specs.Views.{registersOf}

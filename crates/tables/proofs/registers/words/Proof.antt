@@ -1,11 +1,11 @@
 -- `tables::registers::words` meets its contract. The invariant: i words are copied.
 -- Assumes nothing.
-use mathlib.Core.Path.{_≡_, refl, sym, ap, _∙_}
-use Prim.Native.Nat.{ℕ, _+_, _-_, _<_, _≤_}
+use mathlib.Core.Path.{_∙_}
+use Prim.Native.Nat.{_-_}
 use native.Mathlib.Omega.{arith}
 use denote.Ref.{now}
-use mathlib.Core.List.{List, append-nil}
-use lib.ListN.{length, getD, take, drop, set, replicate, length-drop}
+use mathlib.Core.List.{append-nil}
+use lib.ListN.{drop, replicate, length-drop}
 use Rattle.tables.proofs.Copy.{Copied, copy-start, copy-from, copy-long, copy-end}
 use Rattle.tables.proofs.registers.words.Statement.{statement}
 use Rattle.tables.proofs.registers.words.Tie as tie
