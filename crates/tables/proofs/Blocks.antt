@@ -6,7 +6,7 @@ use Prim.Native.Nat.{ℕ, zero, suc, _+_, _-_, _*_, _<_, _≤_}
 use mathlib.Core.List.{List, _++_}
 use native.Mathlib.Omega.{arith}
 use lib.ListN.{length, getD, set, take, drop, length-append, length-take, length-drop, take-append-drop, List·getD-append}
-use lib.Seq.{ext-getD, getD-take, getD-drop, getD-append-add, length-take-le, take-at, drop-at, drop-set-lt}
+use lib.Seq.{ext-getD, getD-take, getD-drop, getD-append-add, length-take-le, take-at, drop-at, drop-set-lt, take-set-lt, set-append-left}
 use Rattle.tables.specs.Views.{block, withBlock}
 
 -- what `a + 256` ends
@@ -83,3 +83,20 @@ module _ (t : List ℕ) (k : ℕ) (b : List ℕ) (h : 32 + 256 * k + 256 ≤ len
 pub set-block : (t : List ℕ) (i v k : ℕ) → i < 32 → block (set t i v) k ≡ block t k
 unfolding block
 set-block t i v k h = ap (take 256) (drop-set-lt (32 + 256 * k) t i v (omega arith))
+
+-- and a block put in besides
+pub with-set : (t : List ℕ) (i v k : ℕ) (b : List ℕ) → i < 32 → 32 + 256 * k ≤ length t → withBlock (set t i v) k b ≡ set (withBlock t k b) i v
+unfolding withBlock
+with-set t i v k b h l =
+    let a : ℕ = 32 + 256 * k in
+    (λ j. take-set-lt a t i v (omega arith) j ++ (b ++ drop 256 (drop-set-lt a t i v (omega arith) j)))
+    ∙ sym (set-append-left (take a t) (b ++ drop 256 (drop a t)) i v (omega (arith, length-take-le a t l)))
+
+-- a block put in twice
+pub with-with : (t : List ℕ) (k : ℕ) (b c : List ℕ) → 32 + 256 * k ≤ length t → length b ≡ 256 → withBlock (withBlock t k b) k c ≡ withBlock t k c
+unfolding withBlock
+with-with t k b c l long =
+    let a : ℕ = 32 + 256 * k in
+    let rest : List ℕ = b ++ drop 256 (drop a t) in
+    let e : length (take a t) ≡ a = length-take-le a t l in
+    λ j. take-at (take a t) rest a e j ++ (c ++ (ap (drop 256) (drop-at (take a t) rest a e) ∙ drop-at b (drop 256 (drop a t)) 256 long) j)

@@ -179,3 +179,8 @@ registers-same b c e f =
 -- a word above the registers is written
 pub set-registers : (b : List ℕ) (i v : ℕ) → at.running ≤ i → registersOf (set b i v) ≡ registersOf b
 set-registers b i v h = registers-same b (set b i v) (length-set b i v) (λ j p. getD-set-other b i j v 0 (omega arith))
+
+-- a run that the written word is not in
+pub set-run : (b : List ℕ) (i v from k : ℕ) → (i < from) ⊎ (from + k ≤ i) → take k (drop from (set b i v)) ≡ take k (drop from b)
+set-run b i v from k p =
+    run-same b (set b i v) from k (length-set b i v) (λ j l m. getD-set-other b i j v 0 (⊎-elim (λ q. omega arith) (λ q. omega arith) p))
