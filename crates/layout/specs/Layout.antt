@@ -30,6 +30,13 @@ iowin = 5
 abbrev pub redirect : ℕ
 redirect = 6
 
+-- the last words are zero
+abbrev pub headerRest : ℕ
+headerRest = 30
+
+abbrev pub headerRestWords : ℕ
+headerRestWords = 2
+
 -- ---- a core's block: 256 words
 
 abbrev pub blockWords : ℕ
@@ -72,6 +79,10 @@ walkHead = 69
 abbrev pub freeHead : ℕ
 freeHead = 70
 
+-- this word is zero
+abbrev pub blockGap : ℕ
+blockGap = 71
+
 -- the 128 port bytes of the local APIC in 32 words, low byte first
 abbrev pub ports : ℕ
 ports = 72
@@ -89,6 +100,13 @@ sipivect = 113
 abbrev pub initrr : ℕ
 initrr = 114
 
+-- the words up to the records are zero
+abbrev pub blockRest : ℕ
+blockRest = 115
+
+abbrev pub blockRestWords : ℕ
+blockRestWords = 13
+
 -- 32 records of four words, numbered 0 to 31
 abbrev pub records : ℕ
 records = 128
@@ -103,6 +121,17 @@ recordAt r = records + recordWords * r
 -- the words of a record: the next record's number, then three of contents
 abbrev pub nextRecord : ℕ
 nextRecord = 0
+
+-- ---- memory: 1 to 4,096 pages of 4,096 bytes
+
+abbrev pub pageBytes : ℕ
+pageBytes = 4096
+
+abbrev pub mostPages : ℕ
+mostPages = 4096
+
+abbrev pub mostCores : ℕ
+mostCores = 4
 
 -- ---- special registers (table 5) that the machine uses
 

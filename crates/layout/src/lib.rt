@@ -15,6 +15,10 @@ pub const IOWIN: usize = 5;
 
 pub const REDIRECT: usize = 6;
 
+pub const HEADER_REST: usize = 30;
+
+pub const HEADER_REST_WORDS: usize = 2;
+
 pub const BLOCK_WORDS: usize = 256;
 
 pub const GPR: usize = 0;
@@ -35,6 +39,8 @@ pub const WALK_HEAD: usize = 69;
 
 pub const FREE_HEAD: usize = 70;
 
+pub const BLOCK_GAP: usize = 71;
+
 pub const PORTS: usize = 72;
 
 pub const EOIPENDING: usize = 104;
@@ -44,6 +50,10 @@ pub const SIPIRR: usize = 112;
 pub const SIPIVECT: usize = 113;
 
 pub const INITRR: usize = 114;
+
+pub const BLOCK_REST: usize = 115;
+
+pub const BLOCK_REST_WORDS: usize = 13;
 
 pub const RECORDS: usize = 128;
 
@@ -73,3 +83,9 @@ pub const PTO: usize = 5;
 pub const ASID: usize = 6;
 
 pub const MODE: usize = 7;
+
+pub const PAGE_BYTES: usize = 4096;
+
+pub const MOST_PAGES: usize = 4096;
+
+pub const MOST_CORES: u32 = 4;

@@ -1,9 +1,9 @@
 -- How far a loop along a chain has come.
 -- Assumes nothing.
 use mathlib.Core.Path.{_≡_, refl, sym, ap, subst, _∙_}
-use mathlib.Core.Logic.{_⊎_, inl, inr, ⊎-elim, _≢_}
-use Prim.Native.Nat.{ℕ, zero, suc, _+_, _*_, _<_, _≤_}
-use mathlib.Core.Bool.{Bool, true, false}
+use mathlib.Core.Logic.{_⊎_, ⊎-elim, _≢_}
+use Prim.Native.Nat.{ℕ, _+_, _<_, _≤_}
+use mathlib.Core.Bool.{true}
 use mathlib.Core.List.{List, [], _∷_, _++_, append-assoc, append-nil}
 use native.Mathlib.Omega.{arith}
 use lib.ListN.{length, getD, length-append}
@@ -11,9 +11,9 @@ use borrow.Author.Tests.{lt-ltb}
 use Rattle.layout.specs.Layout.{recordAt, storeHead, walkHead, freeHead}
 use Rattle.records.specs.Records.{chain, chainAt, count, all, small, endOf, linked}
 use Rattle.records.proofs.Counts.{all-intro, count-head, count-append, count-tail}
-use Rattle.records.proofs.Links.{Links, links-drop, links-chain}
+use Rattle.records.proofs.Links.{Links, links-chain}
 use Rattle.records.proofs.Three.{Three, end-cases}
-use Rattle.records.proofs.Good.{Good, linked-good, all-31}
+use Rattle.records.proofs.Good.{linked-good, all-31}
 
 -- the word that a chain starts from names a record below 32, or none
 pub head-low : {b : List ℕ} {h g : ℕ} {ms os fs : List ℕ} → Three b h ms g os fs → (k : ℕ) (l : List ℕ) → Links b k l

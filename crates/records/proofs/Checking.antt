@@ -1,20 +1,18 @@
 -- What the test of soundness is moved together from.
-use mathlib.Core.Path.{_≡_, refl, sym, ap, subst, _∙_}
+use mathlib.Core.Path.{_≡_, refl, sym, ap, _∙_}
 use mathlib.Core.Logic.{_≢_}
-use Prim.Native.Nat.{ℕ, zero, suc, _+_, _-_, _*_, _<_, _≤_}
+use Prim.Native.Nat.{ℕ, zero, suc, _+_, _-_, _<_, _≤_}
 use mathlib.Core.Bool.{Bool, true, false, _&&_, false≢true}
-use mathlib.Core.List.{List, [], _∷_, _++_}
+use mathlib.Core.List.{List, [], _∷_}
 use native.Mathlib.Omega.{arith}
 use native.Mathlib.Decide.{ℕ-discrete}
-use native.Mathlib.Nat.{suc-ne-zero}
 use lib.ListN.{length, getD, set, length-set}
 use lib.Seq.{getD-set-same, getD-set-other}
-use lib.Dec.{eqb, ltb}
 use borrow.Author.Tests.{ltb-true, lt-ltb, le-ltb, eq-eqb, ne-eqb}
 use Rattle.layout.specs.Layout.{recordAt}
-use Rattle.records.specs.Records.{chain, chainAt, count, bit, each, all, blank, lastBlank, firstBlank, small}
+use Rattle.records.specs.Records.{chain, chainAt, count, bit, each, all, small}
 use Rattle.records.specs.Tallied.{Tallied}
-use Rattle.records.proofs.Counts.{either, and-left, and-right}
+use Rattle.records.proofs.Counts.{either, and-left}
 use Rattle.records.proofs.Three.{count-cons}
 
 -- one step of a chain, with k - 1 of the fuel left

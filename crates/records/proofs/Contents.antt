@@ -7,7 +7,7 @@ use mathlib.Core.List.{List, [], _∷_, map}
 use Rattle.layout.specs.Layout.{storeHead, walkHead}
 use Rattle.records.specs.Records.{all, chainAt, storeIn, walkIn, stores, walks, linked, differing}
 use Rattle.records.specs.Contents.{storeSound, walkSound, soundRecords}
-use Rattle.records.proofs.Counts.{and-left, and-right, and-both}
+use Rattle.records.proofs.Counts.{and-left, and-right}
 use Rattle.records.proofs.Whole.{fails}
 
 pub all-map : {A : Type 0} (p : A → Bool) (f : ℕ → A) (l : List ℕ) → all (λ n. p (f n)) l ≡ all p (map f l)

@@ -1,19 +1,19 @@
 -- Linked records as a record over the three lists, which the laws use, and that it is what the test says.
 -- Assumes nothing.
-use mathlib.Core.Path.{_≡_, refl, sym, ap, _∙_}
-use mathlib.Core.Logic.{_⊎_, inl, inr, ⊎-elim, _≢_}
-use Prim.Native.Nat.{ℕ, zero, suc, _+_, _*_, _<_, _≤_}
+use mathlib.Core.Path.{_≡_, refl, sym, _∙_}
+use mathlib.Core.Logic.{_⊎_, ⊎-elim, _≢_}
+use Prim.Native.Nat.{ℕ, zero, suc, _+_, _<_, _≤_}
 use mathlib.Core.Bool.{Bool, true, false, _&&_, false≢true}
-use mathlib.Core.List.{List, [], _∷_, _++_, map}
+use mathlib.Core.List.{List, _++_}
 use native.Mathlib.Omega.{arith}
 use lib.ListN.{length, getD, length-append}
-use lib.Dec.{eqb, leb, ltb}
+use lib.Dec.{eqb, ltb}
 use borrow.Author.Tests.{eqb-true, eq-eqb, leb-true, le-leb, ltb-true, lt-ltb}
 use Rattle.layout.specs.Layout.{recordAt, storeHead, walkHead, freeHead}
-use Rattle.records.specs.Records.{chain, chainAt, count, each, all, numbers, blank, lastBlank, onceEach, noOther, fewStores, fewWalks, freeBlank, walksBlank, firstBlank, linked}
-use Rattle.records.proofs.Counts.{and-left, and-right, and-both, all-elim, all-intro, each-elim, each-intro, count-append, count-cases, total, total-length, total-each}
-use Rattle.records.proofs.Links.{Links, links-chain, chain-links}
-use Rattle.records.proofs.Three.{Three, at-most}
+use Rattle.records.specs.Records.{chain, chainAt, count, numbers, blank, lastBlank, onceEach, noOther, fewStores, fewWalks, freeBlank, walksBlank, firstBlank, linked}
+use Rattle.records.proofs.Counts.{and-left, and-right, and-both, all-elim, all-intro, each-elim, each-intro, count-append, count-cases, total-length, total-each}
+use Rattle.records.proofs.Links.{links-chain, chain-links}
+use Rattle.records.proofs.Three.{Three}
 
 pub record Good (b ss ws fs : List ℕ) : Type 0 where
   pub three : Three b storeHead ss walkHead ws fs

@@ -1,18 +1,18 @@
 -- The laws of the operations on linked records: what each does to the stores, the walks and the words below the records.
 -- Assumes nothing.
-use mathlib.Core.Path.{_≡_, refl, sym, ap, subst, _∙_}
-use mathlib.Core.Logic.{_≢_, _⊎_, inl, inr, ⊎-elim}
-use Prim.Native.Nat.{ℕ, zero, suc, _+_, _*_, _<_, _≤_}
+use mathlib.Core.Path.{_≡_, refl, sym, ap, _∙_}
+use mathlib.Core.Logic.{_≢_}
+use Prim.Native.Nat.{ℕ, _+_, _<_, _≤_}
 use mathlib.Core.Bool.{Bool, true, false}
-use mathlib.Core.List.{List, [], _∷_, _++_, map, append-nil}
+use mathlib.Core.List.{List, [], _∷_, _++_, append-nil}
 use native.Mathlib.Omega.{arith}
 use lib.ListN.{length, getD, drop, length-map}
 use Rattle.layout.specs.Layout.{storeHead, walkHead, freeHead}
 use Rattle.records.specs.declared.Store.{Store}
 use Rattle.records.specs.declared.Walk.{Walk}
 use Rattle.records.specs.declared.Flush.{Flush}
-use Rattle.records.specs.Records.{chainAt, storeIn, walkIn, stores, walks, linked, endOf, release, insert, among, goes, sweep, staying, putStore, takeStore, addWalk, dropWalks}
-use Rattle.records.proofs.Three.{Held, held}
+use Rattle.records.specs.Records.{chainAt, storeIn, walkIn, stores, walks, linked, endOf, insert, among, goes, staying, withWalk, putStore, takeStore, addWalk, dropWalks}
+use Rattle.records.proofs.Three.{held}
 use Rattle.records.proofs.Good.{Good, good-linked, linked-good, all-31}
 use Rattle.records.proofs.Views.{storeOf, walkOf, stores-good, walks-good, map-append, map-kept, good-release-store, kept-rs, out-rs, good-insert-store, kept-is, out-is, new-store, good-insert-walk, kept-iw, out-iw, new-walk}
 use Rattle.records.proofs.Low.{release-low, insert-low, sweep-low}
@@ -25,10 +25,6 @@ pub record After (b c : List ℕ) (ss : List Store) (ws : List Walk) : Type 0 wh
   pub stores-view : stores c ≡ ss
   pub walks-view : walks c ≡ ws
   pub low : (i : ℕ) → i < 128 → i ≢ storeHead → i ≢ walkHead → i ≢ freeHead → getD c i 0 ≡ getD b i 0
-
--- a walk held already is not added again
-unfoldable pub withWalk : Walk → List Walk → List Walk
-withWalk w l = elim (among w l) [ true ↦ l | false ↦ w ∷ l ]
 
 module _ (b : List ℕ) (long : length b ≡ 256) (e : linked b ≡ true) where
   start : Good b (chainAt b storeHead) (chainAt b walkHead) (chainAt b freeHead)

@@ -16,3 +16,4 @@ pub mod Whole
 pub mod Contents
 pub mod Frame
 pub mod Sound
+pub mod Facts

@@ -1,13 +1,13 @@
 -- Chains as lists of links: what the laws and the proofs speak of.
 use mathlib.Core.Path.{_≡_, refl, sym, ap, _∙_}
-use mathlib.Core.Logic.{_⊎_, inl, inr, ⊎-elim}
-use Prim.Native.Nat.{ℕ, zero, suc, _+_, _*_, _<_, _≤_}
+use mathlib.Core.Logic.{_⊎_, ⊎-elim}
+use Prim.Native.Nat.{ℕ, zero, suc, _+_, _<_, _≤_}
 use mathlib.Core.List.{List, [], _∷_, _++_}
 use native.Mathlib.Omega.{arith}
 use lib.ListN.{length, getD}
 use Rattle.layout.specs.Layout.{recordAt}
 use Rattle.records.specs.Records.{chain, count, endOf}
-use Rattle.records.proofs.Counts.{count-head, count-more, count-cases, count-none, count-here, count-tail}
+use Rattle.records.proofs.Counts.{count-head, count-more, count-cases, count-here, count-tail}
 
 -- from the word h the links spell the list l, and then comes zero
 abbrev pub Links : List ℕ → ℕ → List ℕ → Type 0

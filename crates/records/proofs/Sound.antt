@@ -1,7 +1,7 @@
 -- Sound records stay sound under each operation.
 -- Assumes nothing.
-use mathlib.Core.Path.{_≡_, refl, sym, ap, subst, _∙_}
-use Prim.Native.Nat.{ℕ, zero, suc, _<_, _≤_}
+use mathlib.Core.Path.{_≡_, refl, sym, ap, _∙_}
+use Prim.Native.Nat.{ℕ, _<_}
 use mathlib.Core.Bool.{Bool, true, false, _&&_, _||_, not, true≢false}
 use mathlib.Core.List.{List, [], _∷_, _++_}
 use lib.ListN.{length, drop}
@@ -9,25 +9,26 @@ use borrow.Author.Tests.{not-true}
 use Rattle.records.specs.declared.Store.{Store}
 use Rattle.records.specs.declared.Walk.{Walk}
 use Rattle.records.specs.declared.Flush.{Flush}
-use Rattle.records.specs.Records.{all, stores, walks, linked, same, among, differing, goes, staying, putStore, takeStore, addWalk, dropWalks}
+use Rattle.records.specs.declared.Flush.the-variants.{All}
+use Rattle.records.specs.Records.{all, stores, walks, same, among, differing, goes, staying, withWalk, putStore, takeStore, addWalk, dropWalks}
 use Rattle.records.specs.Contents.{storeSound, walkSound, soundRecords}
 use Rattle.records.proofs.Counts.{and-left, and-right, and-both}
-use Rattle.records.proofs.Laws.{After, withWalk, take-law, put-law, add-law, drop-law}
+use Rattle.records.proofs.Laws.{After, take-law, put-law, add-law, drop-law}
 use Rattle.records.proofs.Contents.{parts-of, parts-all}
 
--- ---- rules on lists
+-- ---- rules on lists, which the lists after an operation keep
 
-all-snoc : {A : Type 0} (p : A → Bool) (l : List A) (x : A) → all p l ≡ true → p x ≡ true → all p (l ++ (x ∷ [])) ≡ true
+pub all-snoc : {A : Type 0} (p : A → Bool) (l : List A) (x : A) → all p l ≡ true → p x ≡ true → all p (l ++ (x ∷ [])) ≡ true
 unfolding all
 all-snoc p [] x e f = and-both (p x) true f refl
 all-snoc p (y ∷ l) x e f = and-both (p y) _ (and-left (p y) (all p l) e) (all-snoc p l x (and-right (p y) (all p l) e) f)
 
-all-rest : {A : Type 0} (p : A → Bool) (l : List A) → all p l ≡ true → all p (drop 1 l) ≡ true
+pub all-rest : {A : Type 0} (p : A → Bool) (l : List A) → all p l ≡ true → all p (drop 1 l) ≡ true
 unfolding all
 all-rest p [] e = refl
 all-rest p (x ∷ l) e = and-right (p x) (all p l) e
 
-all-staying : (hit : ℕ → Bool) (p : Walk → Bool) (l : List Walk) → all p l ≡ true → all p (staying hit l) ≡ true
+pub all-staying : (hit : ℕ → Bool) (p : Walk → Bool) (l : List Walk) → all p l ≡ true → all p (staying hit l) ≡ true
 unfolding all staying
 all-staying hit p [] e = refl
 all-staying hit p (w ∷ l) e = go (hit (w .first)) (all-staying hit p l (and-right (p w) (all p l) e))
@@ -65,13 +66,13 @@ differing-staying hit (w ∷ l) e =
     go false h k = ap (λ (s : Bool). not s && differing (staying hit l)) k ∙ h
 
 module _ (w : Walk) (l : List Walk) where
-  all-with : walkSound w ≡ true → all walkSound l ≡ true → all walkSound (withWalk w l) ≡ true
+  pub all-with : (p : Walk → Bool) → p w ≡ true → all p l ≡ true → all p (withWalk w l) ≡ true
   unfolding withWalk all
-  all-with e f = go (among w l)
+  all-with p e f = go (among w l)
     where
-      go : (t : Bool) → all walkSound (elim t [ true ↦ l | false ↦ w ∷ l ]) ≡ true
+      go : (t : Bool) → all p (elim t [ true ↦ l | false ↦ w ∷ l ]) ≡ true
       go true = f
-      go false = and-both (walkSound w) _ e f
+      go false = and-both (p w) _ e f
 
   differing-with : differing l ≡ true → differing (withWalk w l) ≡ true
   unfolding withWalk differing
@@ -80,6 +81,12 @@ module _ (w : Walk) (l : List Walk) where
       go : (t : Bool) → among w l ≡ t → differing (elim t [ true ↦ l | false ↦ w ∷ l ]) ≡ true
       go true f = e
       go false f = ap (λ (s : Bool). not s && differing l) f ∙ e
+
+-- all walks go
+pub staying-all : (l : List Walk) → staying (goes All) l ≡ []
+unfolding staying
+staying-all [] = refl
+staying-all (w ∷ l) = staying-all l
 
 -- ---- the operations
 
@@ -102,7 +109,7 @@ module _ (n : ℕ) (b : List ℕ) (long : length b ≡ 256) (e : soundRecords n 
   pub add-sound : (w : Walk) → walkSound w ≡ true → (among w (walks b) ≡ false → length (walks b) < 23) → soundRecords n (addWalk b w) ≡ true
   add-sound w f few =
       let p = parts-of n b e in
-      after-sound n (add-law b long (p .0) w few) (p .1) (all-with w (walks b) f (p .2)) (differing-with w (walks b) (p .3))
+      after-sound n (add-law b long (p .0) w few) (p .1) (all-with w (walks b) walkSound f (p .2)) (differing-with w (walks b) (p .3))
 
   pub drop-sound : (f : Flush) → soundRecords n (dropWalks f b) ≡ true
   drop-sound f =

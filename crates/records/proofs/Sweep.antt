@@ -1,18 +1,15 @@
 -- What a sweep of the walks leaves: the walks that stay, the stores, and linked records.
 -- Assumes nothing.
 use mathlib.Core.Path.{_≡_, refl, sym, ap, subst, _∙_}
-use Prim.Native.Nat.{ℕ, zero, suc, _+_, _*_, _<_, _≤_}
-use mathlib.Core.Bool.{Bool, true, false, _&&_, _||_, not, true≢false}
+use Prim.Native.Nat.{ℕ, _+_}
+use mathlib.Core.Bool.{Bool, true, false}
 use mathlib.Core.List.{List, [], _∷_, _++_, map, append-nil, append-assoc}
-use native.Mathlib.Omega.{arith}
-use lib.ListN.{length, getD}
-use borrow.Author.Tests.{not-true}
-use Rattle.layout.specs.Layout.{recordAt, storeHead, walkHead, freeHead}
+use lib.ListN.{getD}
+use Rattle.layout.specs.Layout.{recordAt, walkHead}
 use Rattle.records.specs.declared.Store.{Store}
 use Rattle.records.specs.declared.Walk.{Walk}
-use Rattle.records.specs.Records.{chainAt, count, endOf, sweep, staying, release, same, among, differing}
-use Rattle.records.proofs.Counts.{and-left, and-right}
-use Rattle.records.proofs.Three.{Held, held}
+use Rattle.records.specs.Records.{count, endOf, sweep, staying, release}
+use Rattle.records.proofs.Three.{held}
 use Rattle.records.proofs.Good.{Good}
 use Rattle.records.proofs.Views.{storeOf, walkOf, map-append, map-kept, good-release-walk, kept-rw, out-rw}
 use Rattle.records.proofs.Along.{end-snoc, snoc-append}

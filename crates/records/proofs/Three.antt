@@ -1,17 +1,17 @@
 -- Three chains over the records of a block, and what release and insert do to them.
 -- Assumes nothing.
-use mathlib.Core.Path.{_≡_, refl, sym, ap, _∙_}
+use mathlib.Core.Path.{_≡_, refl, sym, ap}
 use mathlib.Core.Logic.{_⊎_, inl, inr, ⊎-elim, _≢_}
-use Prim.Native.Nat.{ℕ, zero, suc, _+_, _*_, _<_, _≤_}
-use mathlib.Core.List.{List, [], _∷_, _++_, map}
+use Prim.Native.Nat.{ℕ, zero, suc, _+_, _<_, _≤_}
+use mathlib.Core.List.{List, [], _∷_, _++_}
 use native.Mathlib.Omega.{arith}
 use lib.ListN.{length, getD}
 use lib.Dec.{eqb}
 use Rattle.layout.specs.Layout.{recordAt, freeHead}
-use Rattle.records.specs.Records.{moved, chain, count, bit, endOf, release, insert}
-use Rattle.records.proofs.Counts.{count-append, count-head, count-more, count-cases, count-none, count-here, count-tail}
-use Rattle.records.proofs.Links.{Links, links-pos, links-frame, links-drop, links-splice, end-member}
-use Rattle.records.proofs.Words.{Clear, Place, Moved, at-words}
+use Rattle.records.specs.Records.{count, bit, endOf, release, insert}
+use Rattle.records.proofs.Counts.{count-append, count-here}
+use Rattle.records.proofs.Links.{Links, links-frame, links-drop, links-splice, end-member}
+use Rattle.records.proofs.Words.{Place, Moved, at-words}
 
 -- the three words after a record's link
 abbrev pub Held : Type 0

@@ -1,19 +1,19 @@
 -- What release and insert do to linked records and to what the chains hold.
 -- Assumes nothing.
-use mathlib.Core.Path.{_≡_, refl, sym, ap, _∙_}
+use mathlib.Core.Path.{_≡_, refl, ap, _∙_}
 use mathlib.Core.Logic.{⊎-elim, _≢_}
-use Prim.Native.Nat.{ℕ, zero, suc, _+_, _*_, _<_, _≤_}
-use mathlib.Core.Bool.{Bool, true, false, _&&_}
+use Prim.Native.Nat.{ℕ, _+_, _<_}
+use mathlib.Core.Bool.{Bool, true, _&&_}
 use mathlib.Core.List.{List, [], _∷_, _++_, map}
 use native.Mathlib.Omega.{arith}
 use native.Mathlib.Decide.{ℕ-discrete}
-use lib.ListN.{length, getD, length-append}
+use lib.ListN.{length, length-append}
 use lib.Dec.{eqb}
 use borrow.Author.Tests.{ne-eqb}
-use Rattle.layout.specs.Layout.{recordAt, storeHead, walkHead, freeHead}
+use Rattle.layout.specs.Layout.{storeHead, walkHead}
 use Rattle.records.specs.declared.Store.{Store}
 use Rattle.records.specs.declared.Walk.{Walk}
-use Rattle.records.specs.Records.{chainAt, count, bit, blank, lastBlank, storeIn, walkIn, stores, walks, endOf, release, insert}
+use Rattle.records.specs.Records.{count, bit, blank, storeIn, walkIn, stores, walks, endOf, release, insert}
 use Rattle.records.proofs.Counts.{either, count-append, count-cases, count-head, count-more}
 use Rattle.records.proofs.Three.{Held, held, Kept, Three, three-swap, differ, count-cons, r-out, released, release-three, release-kept, i-out, inserted, insert-three, insert-kept}
 use Rattle.records.proofs.Good.{Good, good-chains}

@@ -1,19 +1,17 @@
 -- The test of soundness, moved together from its parts.
-use mathlib.Core.Path.{_≡_, refl, sym, ap, subst, _∙_}
-use mathlib.Core.Logic.{_≢_}
-use Prim.Native.Nat.{ℕ, zero, suc, _+_, _-_, _*_, _<_, _≤_}
-use mathlib.Core.Bool.{Bool, true, false, _&&_, false≢true}
-use mathlib.Core.List.{List, [], _∷_, _++_}
+use mathlib.Core.Path.{_≡_, refl, sym, ap, _∙_}
+use Prim.Native.Nat.{ℕ, zero, suc, _+_, _-_, _<_, _≤_}
+use mathlib.Core.Bool.{Bool, true, false, _&&_}
+use mathlib.Core.List.{List, [], _∷_}
 use native.Mathlib.Omega.{arith}
-use native.Mathlib.Decide.{ℕ-discrete, decLt}
-use lib.ListN.{length, getD, replicate, getD-replicate, List·getD-eq-default, length-replicate}
-use lib.Dec.{eqb, ltb, leb}
+use native.Mathlib.Decide.{decLt}
+use lib.ListN.{length, getD, replicate, getD-replicate, List·getD-eq-default}
+use lib.Dec.{eqb}
 use borrow.Author.Tests.{lt-leb, le-leb}
 use Rattle.layout.specs.Layout.{recordAt, storeHead, walkHead, freeHead}
 use Rattle.records.specs.Records.{chain, chainAt, count, bit, each, all, numbers, onceEach, noOther, fewStores, fewWalks, freeBlank, walksBlank, firstBlank, small, linked}
-use Rattle.records.proofs.Counts.{either, and-left, and-right, and-both, all-elim, all-intro, each-elim, each-intro, count-append}
+use Rattle.records.proofs.Counts.{either, and-left, and-right, and-both, all-elim, all-intro}
 use Rattle.records.proofs.Good.{parts, three-append}
-use Rattle.records.proofs.Three.{count-cons}
 use Rattle.records.specs.Tallied.{Tallied}
 
 -- a test that a passed one implies, and that fails

@@ -1,7 +1,7 @@
 -- What pending stores and walks may hold (01, 'Sound tables'; 000, section 5 and definition 4).
 -- Assumes nothing.
-use Prim.Native.Nat.{ℕ, zero, suc, _+_, _*_, _/_, _%_, _^_}
-use mathlib.Core.Bool.{Bool, true, false, _&&_, _||_}
+use Prim.Native.Nat.{ℕ, zero, suc, _+_, _/_, _%_, _^_}
+use mathlib.Core.Bool.{Bool, true, _&&_, _||_}
 use mathlib.Core.List.{List}
 use lib.Dec.{eqb, ltb, leb}
 use Rattle.layout.specs.Layout.{localPorts, localPortBytes, ioPorts, ioPortBytes}

@@ -1,6 +1,6 @@
 -- The records of a core's block: chains of record numbers and what they hold (01, 'The machine in lent memory').
 -- Assumes nothing.
-use Prim.Native.Nat.{ℕ, zero, suc, _+_, _*_, _/_, _%_, _^_}
+use Prim.Native.Nat.{ℕ, zero, suc, _+_, _/_, _%_}
 use mathlib.Core.Bool.{Bool, true, false, _&&_, _||_, not}
 use mathlib.Core.List.{List, [], _∷_, _++_, map}
 use lib.ListN.{length, getD, set}
@@ -165,6 +165,10 @@ takeStore b = release b storeHead
 -- a new walk goes first; one already held is not added again
 unfoldable pub addWalk : List ℕ → Walk → List ℕ
 addWalk b w = elim (among w (walks b)) [ true ↦ b | false ↦ insert b walkHead (w .first) (w .second) 0 ]
+
+-- the walks after it
+unfoldable pub withWalk : Walk → List Walk → List Walk
+withWalk w l = elim (among w l) [ true ↦ l | false ↦ w ∷ l ]
 
 -- a walk's first word is va * 4096 + asid * 64 + level * 8 + rights
 abbrev pub pageOf : ℕ → ℕ

@@ -1,8 +1,7 @@
 -- `records::add_walk` meets its contract, whether the walk is held or not.
 -- Assumes nothing.
-use mathlib.Core.Path.{_≡_, refl, sym, ap, _∙_}
+use mathlib.Core.Path.{sym, _∙_}
 use native.Mathlib.Omega.{arith}
-use Rattle.records.specs.Records.{addWalk}
 use Rattle.records.proofs.Along.{head-of}
 use borrow.Author.Needs.{needs}
 use Rattle.records.proofs.Fold.{add-held, add-new}

@@ -1,6 +1,6 @@
 -- `records::count_stores` meets its contract: a list is as long as its chain.
 -- Assumes nothing.
-use mathlib.Core.Path.{_≡_, refl, sym, ap, _∙_}
+use mathlib.Core.Path.{sym, _∙_}
 use native.Mathlib.Omega.{arith}
 use Rattle.records.proofs.Fold.{stores-length}
 use Rattle.records.proofs.Along.{stores-small}

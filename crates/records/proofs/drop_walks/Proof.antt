@@ -1,10 +1,8 @@
 -- `records::drop_walks` meets its contract. The invariant: the records to come, swept from here, give the whole sweep.
-use mathlib.Core.Path.{_≡_, refl, sym, ap, _∙_}
-use mathlib.Core.Logic.{⊎-elim}
+use mathlib.Core.Path.{sym, _∙_}
 use native.Mathlib.Omega.{arith}
-use lib.ListN.{length, getD}
-use denote.Ref.{now}
-use Rattle.records.specs.Records.{chain, chainAt}
+use lib.ListN.{length}
+use Rattle.records.specs.Records.{chain}
 use Rattle.records.proofs.Sweeping.{Sweeping, sweep-start, sweep-next-hit, sweep-next-miss, sweep-less-hit, sweep-less-miss, sweep-end}
 use borrow.Author.Needs.{needs}
 use Rattle.records.proofs.drop_walks.Statement.{statement}

@@ -1,6 +1,6 @@
 -- `records::goes` meets its contract, variant by variant.
 -- Assumes nothing.
-use mathlib.Core.Path.{_≡_, sym, ap}
+use mathlib.Core.Path.{sym, ap}
 use borrow.Author.Needs.{needs}
 use Rattle.records.specs.declared.Flush.{Flush}
 use Rattle.records.specs.Records.{goes}

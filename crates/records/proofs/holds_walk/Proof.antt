@@ -1,6 +1,5 @@
 -- `records::holds_walk` meets its contract: it is the search from the head of the chain.
 -- Assumes nothing.
-use mathlib.Core.Path.{_≡_, refl, sym, ap, _∙_}
 use native.Mathlib.Omega.{arith}
 use Rattle.records.specs.Records.{walks}
 use Rattle.records.proofs.Along.{walks-small}

@@ -1,6 +1,5 @@
 -- `records::store_number` meets its contract: the number at the place in the chain of stores.
 -- Assumes nothing.
-use mathlib.Core.Path.{_≡_, refl, sym, ap, _∙_}
 use native.Mathlib.Omega.{arith}
 use denote.Ref.{now}
 use Rattle.records.proofs.Fold.{stores-length}

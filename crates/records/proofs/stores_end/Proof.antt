@@ -1,8 +1,6 @@
 -- `records::stores_end` meets its contract. The invariant: how far along the chain of stores. The measure: how much of it is to come.
-use mathlib.Core.Path.{_≡_, refl, sym, ap, _∙_}
 use native.Mathlib.Omega.{arith}
-use lib.ListN.{length, getD}
-use denote.Ref.{now}
+use lib.ListN.{length}
 use Rattle.layout.specs.Layout.{storeHead}
 use Rattle.records.specs.Records.{chain, chainAt}
 use Rattle.records.proofs.Along.{Along, along-start, along-next, along-last, along-less, store-chain}

@@ -1,7 +1,6 @@
 -- `records::take_store` meets its contract: the first store's record is below 32.
 -- Assumes nothing.
 use borrow.Author.Needs.{needs}
-use mathlib.Core.Path.{_≡_, refl, sym, ap, _∙_}
 use native.Mathlib.Omega.{arith}
 use Rattle.records.specs.Records.{takeStore}
 use Rattle.records.proofs.Along.{head-of}

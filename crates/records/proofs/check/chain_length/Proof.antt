@@ -1,13 +1,6 @@
 -- `records::check::chain_length` meets its contract. The invariant: the length so far and that of what is left are the whole.
-use mathlib.Core.Path.{_≡_, refl, sym, ap, _∙_}
-use mathlib.Core.Logic.{_≢_}
-use mathlib.Core.Bool.{Bool, true, false, _&&_}
-use Prim.Native.Nat.{ℕ, _<_, _≤_}
+use Prim.Native.Nat.{_<_}
 use native.Mathlib.Omega.{arith}
-use lib.ListN.{length, getD}
-use lib.Dec.{eqb, ltb}
-use borrow.Author.Tests.{eq-eqb, ne-eqb}
-use denote.Ref.{now}
 use Rattle.records.proofs.Checking.{Measuring, check-low, measure-start, measure-next, measure-zero, measure-out}
 use Rattle.records.proofs.check.chain_length.Statement.{statement}
 use Rattle.records.proofs.check.chain_length.Tie as tie

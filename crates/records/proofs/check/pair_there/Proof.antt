@@ -1,7 +1,6 @@
 -- `records::check::pair_there` meets its contract.
 -- Assumes nothing.
 use borrow.Author.Needs.{needs}
-use mathlib.Core.Path.{_≡_, refl, sym, ap, _∙_}
 use mathlib.Core.Bool.{_&&_}
 use Rattle.records.proofs.check.pair_there.Statement.{statement}
 use Rattle.records.proofs.check.pair_there.Tie as tie

@@ -1,11 +1,8 @@
 -- `records::check::records_once` meets its contract: three tallies, and each counted once.
-use mathlib.Core.Path.{_≡_, refl, sym, ap, _∙_}
-use mathlib.Core.Bool.{Bool, true, false, _&&_}
-use Prim.Native.Nat.{ℕ, _<_, _≤_}
+use mathlib.Core.Path.{refl, _∙_}
 use native.Mathlib.Omega.{arith}
-use borrow.Author.Tests.{eq-eqb, ne-eqb, not-true, not-false}
-use denote.Ref.{now}
-use Rattle.records.proofs.Whole.{zeros, none-seen, tallied-bound, tallied-once, once-fails-stores, once-fails-walks, once-fails-free}
+use borrow.Author.Tests.{not-true, not-false}
+use Rattle.records.proofs.Whole.{none-seen, tallied-bound, tallied-once, once-fails-stores, once-fails-walks, once-fails-free}
 use borrow.Author.Needs.{needs}
 use Rattle.records.proofs.check.records_once.Statement.{statement}
 use Rattle.records.proofs.check.records_once.Tie as tie

@@ -1,13 +1,5 @@
 -- `records::check::tally` meets its contract. The invariant: the counts so far and those of what is left are the whole.
-use mathlib.Core.Path.{_≡_, refl, sym, ap, _∙_}
-use mathlib.Core.Logic.{_≢_}
-use mathlib.Core.Bool.{Bool, true, false, _&&_}
-use Prim.Native.Nat.{ℕ, _<_, _≤_}
 use native.Mathlib.Omega.{arith}
-use lib.ListN.{length, getD}
-use lib.Dec.{eqb, ltb}
-use borrow.Author.Tests.{eq-eqb, ne-eqb}
-use denote.Ref.{now}
 use Rattle.records.proofs.Checking.{Tallying, tally-start, tally-next, tally-zero, tally-out, tally-big}
 use Rattle.records.proofs.check.tally.Statement.{statement}
 use Rattle.records.proofs.check.tally.Tie as tie

@@ -1,9 +1,8 @@
 -- `records::check::walk_from` meets its contract. The invariant: the records to come decide.
 -- Assumes nothing.
-use mathlib.Core.Path.{_≡_, refl, sym, ap, _∙_}
+use mathlib.Core.Path.{refl}
 use native.Mathlib.Omega.{arith}
-use denote.Ref.{now}
-use Prim.Native.Nat.{ℕ, _<_}
+use Prim.Native.Nat.{_<_}
 use Rattle.records.specs.Records.{chain}
 use Rattle.records.proofs.Fold.{Finding, left-low, amongIn, find-zero, find-out, find-hit, find-miss}
 use Rattle.records.proofs.check.walk_from.Statement.{statement}

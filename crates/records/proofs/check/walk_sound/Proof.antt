@@ -1,6 +1,6 @@
 -- `records::check::walk_sound` meets its contract: it is the definition.
 -- Assumes nothing.
-use mathlib.Core.Path.{_≡_, refl, sym, ap, _∙_}
+use mathlib.Core.Path.{refl}
 use Rattle.records.specs.Contents.{walkSound}
 use Rattle.records.proofs.check.walk_sound.Statement.{statement}
 use Rattle.records.proofs.check.walk_sound.Tie as tie

@@ -1,9 +1,7 @@
 -- `records::check::walks_differ` meets its contract. The invariant: the records to come decide.
-use mathlib.Core.Path.{_≡_, refl, sym, ap, _∙_}
-use mathlib.Core.Bool.{Bool, true, false, _&&_}
-use Prim.Native.Nat.{ℕ, _<_, _≤_}
+use mathlib.Core.Path.{refl, sym, _∙_}
+use Prim.Native.Nat.{_<_}
 use native.Mathlib.Omega.{arith}
-use denote.Ref.{now}
 use Rattle.layout.specs.Layout.{walkHead}
 use Rattle.records.specs.Records.{chainAt, walks}
 use Rattle.records.proofs.Fold.{Sifting, left-low, left-lows, differIn, sift-zero, sift-out, sift-hit, sift-miss}

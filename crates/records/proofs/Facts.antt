@@ -1,0 +1,113 @@
+-- Sound stores and walks as facts.
+-- Assumes nothing.
+use mathlib.Core.Path.{_≡_, refl, sym, ap, _∙_}
+use mathlib.Core.Logic.{_⊎_, inl, inr, ⊎-elim}
+use Prim.Native.Nat.{ℕ, zero, suc, _/_, _%_, _^_, _<_, _≤_}
+use mathlib.Core.Bool.{Bool, true, false, _&&_, _||_, false≢true}
+use mathlib.Core.List.{List, [], _∷_}
+use native.Mathlib.Omega.{arith}
+use lib.ListN.{length, getD}
+use lib.Dec.{eqb, ltb, leb}
+use borrow.Author.Tests.{eq-eqb, eqb-true, lt-ltb, ltb-true, le-leb, leb-true}
+use Rattle.records.specs.declared.Store.{Store}
+use Rattle.records.specs.declared.Walk.{Walk}
+use Rattle.records.specs.Records.{all, same, among, levelOf}
+use Rattle.records.specs.Contents.{allThere, storeSound, walkSound}
+use Rattle.records.proofs.Counts.{and-left, and-right, and-both}
+
+-- what is said of every element holds of the one at a place
+pub all-at : {A : Type 0} (p : A → Bool) (l : List A) (i : ℕ) (d : A) → all p l ≡ true → i < length l → p (getD l i d) ≡ true
+unfolding all
+all-at p [] i d e h = absurd (omega arith)
+all-at p (x ∷ l) zero d e h = and-left (p x) (all p l) e
+all-at p (x ∷ l) (suc i) d e h = all-at p l i d (and-right (p x) (all p l) e) (omega arith)
+
+or-cases : (p q : Bool) → p || q ≡ true → (p ≡ true) ⊎ (q ≡ true)
+or-cases true q e = inl refl
+or-cases false q e = inr e
+
+or-first : (p q : Bool) → p ≡ true → p || q ≡ true
+or-first true q e = refl
+or-first false q e = absurd (false≢true e)
+
+or-second : (p q : Bool) → q ≡ true → p || q ≡ true
+or-second true q e = refl
+or-second false q e = e
+
+-- two walks that are the same
+pub same-walk : (v w : Walk) → same v w ≡ true → v ≡ w
+same-walk v w e =
+    let p : v .first ≡ w .first = eqb-true (v .first) (w .first) (and-left (eqb (v .first) (w .first)) _ e) in
+    let q : v .second ≡ w .second = eqb-true (v .second) (w .second) (and-right (eqb (v .first) (w .first)) _ e) in
+    λ i. record { first = p i; second = q i }
+
+-- what is said of every walk holds of one that is held
+pub all-among : (p : Walk → Bool) (w : Walk) (l : List Walk) → all p l ≡ true → among w l ≡ true → p w ≡ true
+unfolding all among
+all-among p w [] e h = absurd (false≢true h)
+all-among p w (v ∷ l) e h =
+    ⊎-elim (λ q. ap p (sym (same-walk v w q)) ∙ and-left (p v) (all p l) e) (λ q. all-among p w l (and-right (p v) (all p l) e) q)
+    (or-cases (same v w) (among w l) h)
+
+-- the walk at a place is held
+pub among-at : (l : List Walk) (i : ℕ) (d : Walk) → i < length l → among (getD l i d) l ≡ true
+unfolding among
+among-at [] i d h = absurd (omega arith)
+among-at (w ∷ l) zero d h =
+    or-first (same w w) (among w l) (and-both (eqb (w .first) (w .first)) _ (eq-eqb (w .first) (w .first) refl) (eq-eqb (w .second) (w .second) refl))
+among-at (w ∷ l) (suc i) d h = or-second (same w (getD l i d)) (among (getD l i d) l) (among-at l i d (omega arith))
+
+pub record StoreFacts (n : ℕ) (s : Store) : Type 0 where
+  pub wide : (s .width ≡ 1) ⊎ ((s .width ≡ 2) ⊎ (s .width ≡ 4))
+  pub aligned : s .address % s .width ≡ 0
+  pub fits : s .value < 256 ^ s .width
+  pub inside : allThere (s .width) n (s .address) ≡ true
+
+module _ (n : ℕ) (s : Store) where
+  pub store-facts : storeSound n s ≡ true → StoreFacts n s
+  unfolding storeSound
+  store-facts e =
+      let w = and-left (eqb (s .width) 1 || (eqb (s .width) 2 || eqb (s .width) 4)) _ e in
+      let e₁ = and-right (eqb (s .width) 1 || (eqb (s .width) 2 || eqb (s .width) 4)) _ e in
+      let e₂ = and-right (eqb (s .address % s .width) 0) _ e₁ in
+      record {
+        wide =
+            ⊎-elim (λ p. inl (eqb-true (s .width) 1 p))
+            (λ p. inr (⊎-elim (λ q. inl (eqb-true (s .width) 2 q)) (λ q. inr (eqb-true (s .width) 4 q)) (or-cases (eqb (s .width) 2) (eqb (s .width) 4) p)))
+            (or-cases (eqb (s .width) 1) (eqb (s .width) 2 || eqb (s .width) 4) w);
+        aligned = eqb-true (s .address % s .width) 0 (and-left (eqb (s .address % s .width) 0) _ e₁);
+        fits = ltb-true (s .value) (256 ^ s .width) (and-left (ltb (s .value) (256 ^ s .width)) _ e₂);
+        inside = and-right (ltb (s .value) (256 ^ s .width)) _ e₂;
+      }
+
+  pub facts-store : StoreFacts n s → storeSound n s ≡ true
+  unfolding storeSound
+  facts-store F =
+      and-both (eqb (s .width) 1 || (eqb (s .width) 2 || eqb (s .width) 4)) _
+      (⊎-elim (λ p. or-first (eqb (s .width) 1) _ (eq-eqb (s .width) 1 p))
+      (λ p. or-second (eqb (s .width) 1) _ (⊎-elim (λ q. or-first (eqb (s .width) 2) _ (eq-eqb (s .width) 2 q)) (λ q. or-second (eqb (s .width) 2) _ (eq-eqb (s .width) 4 q)) p))
+      (F .wide))
+      (and-both (eqb (s .address % s .width) 0) _ (eq-eqb (s .address % s .width) 0 (F .aligned))
+      (and-both (ltb (s .value) (256 ^ s .width)) _ (lt-ltb (s .value) (256 ^ s .width) (F .fits)) (F .inside)))
+
+pub record WalkFacts (w : Walk) : Type 0 where
+  pub level : levelOf (w .first) ≤ 2
+  pub clear : w .first / 32 % 2 ≡ 0
+  pub base : w .second < 2 ^ 20
+
+module _ (w : Walk) where
+  pub walk-facts : walkSound w ≡ true → WalkFacts w
+  unfolding walkSound
+  walk-facts e =
+      let e₁ = and-right (leb (levelOf (w .first)) 2) _ e in
+      record {
+        level = leb-true (levelOf (w .first)) 2 (and-left (leb (levelOf (w .first)) 2) _ e);
+        clear = eqb-true (w .first / 32 % 2) 0 (and-left (eqb (w .first / 32 % 2) 0) _ e₁);
+        base = ltb-true (w .second) (2 ^ 20) (and-right (eqb (w .first / 32 % 2) 0) _ e₁);
+      }
+
+  pub facts-walk : WalkFacts w → walkSound w ≡ true
+  unfolding walkSound
+  facts-walk F =
+      and-both (leb (levelOf (w .first)) 2) _ (le-leb (levelOf (w .first)) 2 (F .level))
+      (and-both (eqb (w .first / 32 % 2) 0) _ (eq-eqb (w .first / 32 % 2) 0 (F .clear)) (lt-ltb (w .second) (2 ^ 20) (F .base)))

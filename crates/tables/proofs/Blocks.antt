@@ -1,0 +1,102 @@
+-- The block of a core as a part of the tables.
+-- Assumes nothing.
+use mathlib.Core.Path.{_≡_, refl, sym, ap, _∙_}
+use mathlib.Core.Logic.{_≢_, ⊎-elim, _⊎_, inl, inr}
+use Prim.Native.Nat.{ℕ, zero, suc, _+_, _-_, _*_, _<_, _≤_}
+use mathlib.Core.List.{List, _++_}
+use native.Mathlib.Omega.{arith}
+use lib.ListN.{length, getD, set, take, drop, length-append, length-take, length-drop, take-append-drop, List·getD-append}
+use lib.Seq.{ext-getD, getD-take, getD-drop, getD-append-add, length-take-le, take-at, drop-at, drop-set-lt, take-set-lt, set-append-left}
+use Rattle.tables.specs.Views.{block, withBlock}
+
+-- what `a + 256` ends
+pub span : (a : ℕ) → a + 256 - a ≡ 256
+span a = omega arith
+
+pub block-long : (t : List ℕ) (k : ℕ) → 32 + 256 * k + 256 ≤ length t → length (block t k) ≡ 256
+unfolding block
+block-long t k h = simp (length-take, length-drop) (omega arith)
+
+pub block-at : (t : List ℕ) (k i : ℕ) → i < 256 → getD (block t k) i 0 ≡ getD t (32 + 256 * k + i) 0
+unfolding block
+block-at t k i h = getD-take 256 (drop (32 + 256 * k) t) i 0 h ∙ getD-drop (32 + 256 * k) t i 0
+
+-- the tables with the block that they have
+pub with-same : (t : List ℕ) (k : ℕ) → withBlock t k (block t k) ≡ t
+unfolding withBlock block
+with-same t k =
+    ap (λ (l : List ℕ). take (32 + 256 * k) t ++ l) (take-append-drop 256 (drop (32 + 256 * k) t)) ∙ take-append-drop (32 + 256 * k) t
+
+-- two tables with the same words at core k's places have the same block
+pub same-block : (s t : List ℕ) (k : ℕ) → length s ≡ length t → 32 + 256 * k + 256 ≤ length t → ((i : ℕ) → 32 + 256 * k ≤ i → i < 32 + 256 * k + 256 → getD s i 0 ≡ getD t i 0) → block s k ≡ block t k
+same-block s t k e h f =
+    let ls = block-long s k (omega arith) in
+    ext-getD 0 (block s k) (block t k) (ls ∙ sym (block-long t k h))
+    (λ i p. block-at s k i (omega (arith, ls)) ∙ f (32 + 256 * k + i) (omega arith) (omega (arith, ls)) ∙ sym (block-at t k i (omega (arith, ls))))
+
+module _ (t : List ℕ) (k : ℕ) (b : List ℕ) (h : 32 + 256 * k + 256 ≤ length t) (long : length b ≡ 256) where
+  abbrev a : ℕ
+  a = 32 + 256 * k
+
+  start : length (take a t) ≡ a
+  start = length-take-le a t (omega arith)
+
+  pub with-long : length (withBlock t k b) ≡ length t
+  unfolding withBlock
+  with-long = simp (length-append, length-take, length-drop) (omega arith)
+
+  -- the block that was put in
+  pub with-block : block (withBlock t k b) k ≡ b
+  unfolding withBlock block
+  with-block = ap (take 256) (drop-at (take a t) (b ++ drop 256 (drop a t)) a start) ∙ take-at b (drop 256 (drop a t)) 256 long
+
+  -- the words before it and after it
+  pub with-before : (i : ℕ) → i < a → getD (withBlock t k b) i 0 ≡ getD t i 0
+  unfolding withBlock
+  with-before i p = List·getD-append (take a t) (b ++ drop 256 (drop a t)) 0 i (omega (arith, start)) ∙ getD-take a t i 0 p
+
+  pub with-after : (i : ℕ) → a + 256 ≤ i → getD (withBlock t k b) i 0 ≡ getD t i 0
+  unfolding withBlock
+  with-after i p =
+      let r : ℕ = i - (a + 256) in
+      let e : i ≡ length (take a t) + (length b + r) = omega (arith, start) in
+      let f : a + (256 + r) ≡ i = omega arith in
+      ap (λ (j : ℕ). getD (withBlock t k b) j 0) e
+      ∙ getD-append-add (take a t) (b ++ drop 256 (drop a t)) (length b + r) 0
+      ∙ getD-append-add b (drop 256 (drop a t)) r 0
+      ∙ getD-drop 256 (drop a t) r 0 ∙ getD-drop a t (256 + r) 0 ∙ ap (λ (j : ℕ). getD t j 0) f
+
+  pub with-header : (i : ℕ) → i < 32 → getD (withBlock t k b) i 0 ≡ getD t i 0
+  with-header i p = with-before i (omega arith)
+
+  -- the blocks of the other cores
+  pub with-other : (j : ℕ) → j ≢ k → 32 + 256 * j + 256 ≤ length t → block (withBlock t k b) j ≡ block t j
+  with-other j d l = same-block (withBlock t k b) t j with-long l (λ i p q. ⊎-elim (λ r. with-before i (omega arith)) (λ r. with-after i (omega arith)) (side j k d))
+    where
+      side : (j k : ℕ) → j ≢ k → (j < k) ⊎ (k < j)
+      side zero zero d = absurd (d refl)
+      side zero (suc k) d = inl (omega arith)
+      side (suc j) zero d = inr (omega arith)
+      side (suc j) (suc k) d = ⊎-elim (λ p. inl (omega arith)) (λ p. inr (omega arith)) (side j k (λ e. d (ap suc e)))
+
+-- a word of the header is written
+pub set-block : (t : List ℕ) (i v k : ℕ) → i < 32 → block (set t i v) k ≡ block t k
+unfolding block
+set-block t i v k h = ap (take 256) (drop-set-lt (32 + 256 * k) t i v (omega arith))
+
+-- and a block put in besides
+pub with-set : (t : List ℕ) (i v k : ℕ) (b : List ℕ) → i < 32 → 32 + 256 * k ≤ length t → withBlock (set t i v) k b ≡ set (withBlock t k b) i v
+unfolding withBlock
+with-set t i v k b h l =
+    let a : ℕ = 32 + 256 * k in
+    (λ j. take-set-lt a t i v (omega arith) j ++ (b ++ drop 256 (drop-set-lt a t i v (omega arith) j)))
+    ∙ sym (set-append-left (take a t) (b ++ drop 256 (drop a t)) i v (omega (arith, length-take-le a t l)))
+
+-- a block put in twice
+pub with-with : (t : List ℕ) (k : ℕ) (b c : List ℕ) → 32 + 256 * k ≤ length t → length b ≡ 256 → withBlock (withBlock t k b) k c ≡ withBlock t k c
+unfolding withBlock
+with-with t k b c l long =
+    let a : ℕ = 32 + 256 * k in
+    let rest : List ℕ = b ++ drop 256 (drop a t) in
+    let e : length (take a t) ≡ a = length-take-le a t l in
+    λ j. take-at (take a t) rest a e j ++ (c ++ (ap (drop 256) (drop-at (take a t) rest a e) ∙ drop-at b (drop 256 (drop a t)) 256 long) j)

@@ -1,0 +1,10 @@
+pub mod Copy
+pub mod Fresh
+pub mod Blocks
+pub mod Parts
+pub mod Answers
+pub mod Lift
+pub mod Reset
+pub mod Places
+pub mod Steps
+pub mod Bank
