@@ -220,3 +220,133 @@ pub enum Decision {
     Adds(Walk),
     Marks(u32, u32),
 }
+
+// The special registers that the TLB's own steps read.
+const PTO: usize = 5;
+
+const ASID: usize = 6;
+
+const MODE: usize = 7;
+
+// What a core's block says: user mode, whether the core runs, the address space and the page table origin.
+
+pub fn user_mode(b: &[u32]) -> bool
+    requires { ⌜ length (now b) ≡ 256 ⌝ }
+    ensures { λ r. ⌜ r ≡ y.userMode (now (b .entry)) ⌝ }
+{
+    b[SPR + MODE] % 2 == 1
+}
+
+pub fn runs(b: &[u32]) -> bool
+    requires { ⌜ length (now b) ≡ 256 ⌝ }
+    ensures { λ r. ⌜ r ≡ y.runs (now (b .entry)) ⌝ }
+{
+    b[RUNNING] == 1
+}
+
+pub fn address_space(b: &[u32]) -> u32
+    requires { ⌜ length (now b) ≡ 256 ⌝ }
+    ensures { λ r. ⌜ r ≡ y.asidOf (now (b .entry)) ⌝ }
+{
+    b[SPR + ASID] % 64
+}
+
+pub fn origin(b: &[u32]) -> u32
+    requires { ⌜ length (now b) ≡ 256 ⌝ }
+    ensures { λ r. ⌜ r ≡ y.originOf (now (b .entry)) ⌝ }
+{
+    page(b[SPR + PTO])
+}
+
+// What tlb-create decides for a virtual page.
+pub fn create(b: &[u32], va: u32) -> Decision
+    requires { ⌜ length (now b) ≡ 256 ⌝ }
+    requires { ⌜ va < 2 ^ 20 ⌝ }
+    ensures { λ r. ⌜ r ≡ y.createOn (now (b .entry)) va ⌝ }
+{
+    if user_mode(b) & runs(b) {
+        return Decision::Adds(winit(va, origin(b), address_space(b)));
+    }
+    Decision::Refused(6)
+}
+
+// Whether a walk is held, incomplete and of the current address space.
+fn extendable(b: &[u32], w: Walk) -> bool
+    requires { ⌜ length (now b) ≡ 256 ⌝ }
+    requires { ⌜ linked (now b) ≡ true ⌝ }
+    ensures { λ r. ⌜ r ≡ y.extendable (y.asidOf (now (b .entry))) (walks (now (b .entry))) w ⌝ }
+{
+    records::holds_walk(b, w) & (!complete(w) & (asid(w) == address_space(b)))
+}
+
+fn on_extend(w: Walk, e: Entry) -> Decision
+    requires { ⌜ x.complete w ≡ false ⌝ }
+    ensures { λ r. ⌜ r ≡ y.onExtend w e ⌝ }
+{
+    match e {
+        Entry::Word(v) => {
+            if is_accessed(v) & !wext_faults(v, 0) {
+                return Decision::Adds(wext(w, v));
+            }
+            Decision::Refused(6)
+        }
+        Entry::Missing => Decision::Refused(7),
+    }
+}
+
+// What tlb-extend decides for a walk.
+pub fn extend(b: &[u32], m: &[u8], w: Walk) -> Decision
+    requires { ⌜ length (now b) ≡ 256 ⌝ }
+    requires { ⌜ linked (now b) ≡ true ⌝ }
+    ensures { λ r. ⌜ r ≡ y.extendOn (now (b .entry)) (now (m .entry)) w ⌝ }
+{
+    if runs(b) & extendable(b, w) {
+        return on_extend(w, pte(m, w));
+    }
+    Decision::Refused(6)
+}
+
+fn on_accessed(w: Walk, e: Entry) -> Decision
+    ensures { λ r. ⌜ r ≡ y.onAccessed w e ⌝ }
+{
+    match e {
+        Entry::Word(v) => {
+            if present(v) {
+                return Decision::Marks(ptea(w), set_accessed(v));
+            }
+            Decision::Refused(6)
+        }
+        Entry::Missing => Decision::Refused(7),
+    }
+}
+
+// What tlb-accessed decides for a walk.
+pub fn accessed(b: &[u32], m: &[u8], w: Walk) -> Decision
+    requires { ⌜ length (now b) ≡ 256 ⌝ }
+    requires { ⌜ linked (now b) ≡ true ⌝ }
+    ensures { λ r. ⌜ r ≡ y.accessedOn (now (b .entry)) (now (m .entry)) w ⌝ }
+{
+    if user_mode(b) & extendable(b, w) {
+        return on_accessed(w, pte(m, w));
+    }
+    Decision::Refused(6)
+}
+
+// What was decided is done.
+pub fn commit(b: &mut [u32], m: &mut [u8], d: Decision)
+    requires { ⌜ length (now b) ≡ 256 ⌝ }
+    requires { ⌜ linked (now b) ≡ true ⌝ }
+    requires { ⌜ y.inMemory d (now m) ≡ true ⌝ }
+    ensures { λ _. ⌜ now (b .exit) ≡ y.blockAfter d (now (b .entry)) ⌝ }
+    ensures { λ _. ⌜ now (m .exit) ≡ y.memoryAfter d (now (m .entry)) ⌝ }
+{
+    match d {
+        Decision::Refused(_) => {}
+        Decision::Adds(w) => {
+            records::add_walk(b, w);
+        }
+        Decision::Marks(a, e) => {
+            word::write_word(m, a as usize, e);
+        }
+    }
+}
