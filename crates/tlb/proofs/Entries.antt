@@ -139,3 +139,7 @@ mark-other m a j h d = rw (mark-memory m a h) (getD-set-other m a j (set-d (getD
 
 pub mark-byte : (m : List ℕ) (a : ℕ) → Bytes m → a < length m → getD (put 4 m a (set-d (bytesAt 4 m a))) a 0 ≡ set-d (getD m a 0)
 mark-byte m a h k = rw (mark-memory m a h) (getD-set-same m a (set-d (getD m a 0)) 0 k)
+
+-- an entry without its lowest byte: where base, present and rights stand
+pub entry-high : (m : List ℕ) (a : ℕ) → Bytes m → bytesAt 4 m a / 2 ^ 8 ≡ bytesAt 3 m (a + 1)
+entry-high m a h = omega (arith, h a)
