@@ -1,14 +1,14 @@
 -- What the code's cases show of the decisions of the TLB's own steps, and of what is done.
 -- Assumes nothing.
-use mathlib.Core.Path.{_≡_, refl, sym, ap, _∙_}
+use mathlib.Core.Path.{_≡_, sym, ap, _∙_}
 use mathlib.Core.Bool.{Bool, true, false, not, _&&_}
 use mathlib.Core.List.{List}
 use Prim.Native.Nat.{ℕ, _+_, _/_, _%_, _^_, _≤_}
 use native.Mathlib.Omega.{arith}
-use lib.ListN.{length, getD}
-use lib.Dec.{eqb, leb}
+use lib.ListN.{length}
+use lib.Dec.{eqb}
 use borrow.Author.Tests.{leb-true, not-true}
-use Rattle.word.specs.Word.{if_then_else_, bit}
+use Rattle.word.specs.Word.{bit}
 use Rattle.word.specs.Bytes.{put}
 use Rattle.records.specs.declared.Walk.{Walk}
 use Rattle.records.specs.Records.{among, addWalk}

@@ -2,18 +2,17 @@
 -- Assumes nothing.
 use mathlib.Core.Path.{_≡_, refl, sym, ap, ap₂, subst, _∙_}
 use mathlib.Core.Logic.{_≢_}
-use mathlib.Core.Bool.{Bool, true, false, _&&_, _||_, not}
+use mathlib.Core.Bool.{Bool, true, false}
 use mathlib.Core.List.{List}
-use Prim.Native.Nat.{ℕ, zero, suc, _+_, _-_, _*_, _/_, _%_, _^_, _≤_, _<_}
+use Prim.Native.Nat.{ℕ, zero, suc, _+_, _*_, _/_, _%_, _^_, _≤_, _<_}
 use native.Mathlib.Omega.{arith}
-use lib.ListN.{length, getD, set, length-set}
+use lib.ListN.{length, getD, set}
 use lib.Seq.{set-getD, getD-set-same, getD-set-other}
-use lib.Dec.{eqb, leb, ltb}
-use borrow.Author.Tests.{eq-eqb, ne-eqb, eqb-true, eqb-false, leb-true, le-leb, lt-leb}
-use Rattle.word.specs.Word.{if_then_else_, bit}
+use lib.Dec.{eqb, leb}
+use borrow.Author.Tests.{eq-eqb, ne-eqb, eqb-true, eqb-false, le-leb, lt-leb}
+use Rattle.word.specs.Word.{if_then_else_}
 use Rattle.word.specs.Bytes.{bytesAt, put}
 use Rattle.word.proofs.Bytes.{Bytes}
-use Rattle.tlb.specs.declared.Entry.{Entry}
 use Rattle.tlb.specs.declared.Entry.the-variants.{Word, Missing}
 use Rattle.tlb.specs.Walks.{pteBa, pteP, pteR, pteA, set-d, entryAt}
 
@@ -143,3 +142,7 @@ mark-byte m a h k = rw (mark-memory m a h) (getD-set-same m a (set-d (getD m a 0
 -- an entry without its lowest byte: where base, present and rights stand
 pub entry-high : (m : List ℕ) (a : ℕ) → Bytes m → bytesAt 4 m a / 2 ^ 8 ≡ bytesAt 3 m (a + 1)
 entry-high m a h = omega (arith, h a)
+
+-- a bit set already: memory is as it was
+pub mark-again : (m : List ℕ) (a : ℕ) → Bytes m → pteA (bytesAt 4 m a) ≡ true → put 4 m a (set-d (bytesAt 4 m a)) ≡ m
+mark-again m a h e = ap (put 4 m a) (set-d-set (bytesAt 4 m a) e) ∙ put-back 4 m a (λ j k. h j)

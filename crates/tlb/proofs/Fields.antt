@@ -1,12 +1,11 @@
 -- Laws of walks: their fields, the addresses of their entries, and which of them are sound.
 -- Assumes nothing.
-use mathlib.Core.Path.{_≡_, refl, sym, ap, _∙_}
-use mathlib.Core.Bool.{Bool, true, false, _&&_, _||_, not, true≢false}
+use mathlib.Core.Path.{_≡_, refl, sym, _∙_}
+use mathlib.Core.Bool.{Bool, true, false}
 use Prim.Native.Nat.{ℕ, _+_, _-_, _*_, _/_, _%_, _^_, _≤_, _<_}
 use native.Mathlib.Omega.{arith}
-use lib.Dec.{eqb, leb, ltb}
-use borrow.Author.Tests.{eq-eqb, ne-eqb, eqb-true, eqb-false, leb-true, ltb-true, le-leb, lt-ltb, not-true}
-use Rattle.word.specs.Word.{if_then_else_}
+use lib.Dec.{eqb, leb}
+use borrow.Author.Tests.{eq-eqb, ne-eqb, eqb-true, eqb-false, leb-true, ltb-true, le-leb, lt-ltb}
 use Rattle.records.specs.declared.Walk.{Walk}
 use Rattle.records.specs.Contents.{walkSound}
 use Rattle.records.proofs.Counts.{and-left, and-right, and-both}
@@ -18,26 +17,17 @@ same-walk e f = λ i. record { first = e i; second = f i }
 
 -- ---- a packed walk has the fields that were packed
 
+pub record Fields (w : Walk) (v a l r b : ℕ) : Type 0 where
+  pub va : walkVa w ≡ v
+  pub asid : walkAsid w ≡ a
+  pub level : walkLevel w ≡ l
+  pub rights : walkR w ≡ r
+  pub base : walkBa w ≡ b
+
 module _ (v a l r b : ℕ) (ha : a < 2 ^ 6) (hl : l < 4) (hr : r < 2 ^ 3) where
-  pub va-of : walkVa (walkOf v a l r b) ≡ v
+  pub of-fields : Fields (walkOf v a l r b) v a l r b
   unfolding walkOf
-  va-of = omega arith
-
-  pub asid-of : walkAsid (walkOf v a l r b) ≡ a
-  unfolding walkOf
-  asid-of = omega arith
-
-  pub level-of : walkLevel (walkOf v a l r b) ≡ l
-  unfolding walkOf
-  level-of = omega arith
-
-  pub r-of : walkR (walkOf v a l r b) ≡ r
-  unfolding walkOf
-  r-of = omega arith
-
-  pub ba-of : walkBa (walkOf v a l r b) ≡ b
-  unfolding walkOf
-  ba-of = refl
+  of-fields = record { va = omega arith; asid = omega arith; level = omega arith; rights = omega arith; base = refl }
 
   -- its first word is a word, and it is sound
   pub first-lt : v < 2 ^ 20 → walkOf v a l r b .first < 2 ^ 32
@@ -145,6 +135,15 @@ wext-sound w e s h = go (pteP e) refl
         rw (wext-present w e p)
         (of-sound (walkVa w) (walkAsid w) (walkLevel w - 1) (pteR e) (pteBa e) (omega arith) (omega arith) (omega arith) (omega (arith, level-sound w s)) (omega arith))
     go false p = rw (wext-absent w e p) s
+
+-- the fields of a created walk, and of one that a present entry extends
+pub winit-fields : (va origin asid : ℕ) → asid < 2 ^ 6 → Fields (winit va origin asid) va asid 2 7 origin
+unfolding winit
+winit-fields va origin asid h = of-fields va asid 2 7 origin h (omega arith) (omega arith)
+
+pub wext-fields : (w : Walk) (e : ℕ) → pteP e ≡ true → Fields (wext w e) (walkVa w) (walkAsid w) (walkLevel w - 1) (pteR e) (pteBa e)
+wext-fields w e p =
+    rw (wext-present w e p) (of-fields (walkVa w) (walkAsid w) (walkLevel w - 1) (pteR e) (pteBa e) (omega arith) (omega arith) (omega arith))
 
 -- an incomplete walk has a level to lose
 pub incomplete-level : (w : Walk) → complete w ≡ false → 0 < walkLevel w

@@ -3,7 +3,7 @@
 use mathlib.Core.Path.{_≡_, refl, sym, ap, ap₂, subst, _∙_}
 use mathlib.Core.Bool.{Bool, true, false, _&&_, _||_, not}
 use mathlib.Core.List.{List, [], _∷_}
-use Prim.Native.Nat.{ℕ, _+_, _*_, _/_, _%_, _^_, _≤_, _<_}
+use Prim.Native.Nat.{ℕ, _+_, _^_, _≤_, _<_}
 use native.Mathlib.Omega.{arith}
 use lib.ListN.{length, getD, set}
 use lib.Dec.{eqb, leb}
@@ -19,7 +19,7 @@ use Rattle.tlb.specs.declared.Entry.{Entry}
 use Rattle.tlb.specs.declared.Entry.the-variants.{Word, Missing}
 use Rattle.tlb.specs.declared.Decision.{Decision}
 use Rattle.tlb.specs.declared.Decision.the-variants.{Refused, Adds, Marks}
-use Rattle.tlb.specs.Walks.{walkAsid, walkBa, pteA, pteP, ptea, entryAt, complete, winit, wext, wextFault, set-d}
+use Rattle.tlb.specs.Walks.{walkAsid, pteA, pteP, ptea, entryAt, complete, winit, wext, wextFault, set-d}
 use Rattle.tlb.specs.Steps.{tlbCreate, extendable, onExtend, tlbExtend, onAccessed, tlbAccessed, memoryAfter, inMemory}
 use Rattle.tlb.proofs.Fields.{same-walk, winit-sound, wext-sound}
 use Rattle.tlb.proofs.Entries.{mark-memory}

@@ -1,9 +1,9 @@
 -- What the TLB's own steps decide and do (000, 11.3: tlb-create, tlb-extend, tlb-set-accessed). A guard that is decided and fails is
 -- refusal 6; where none fails and the entry that one needs is not in memory, 7.
 -- Assumes nothing.
-use mathlib.Core.Bool.{Bool, true, false, _&&_, not}
+use mathlib.Core.Bool.{Bool, true, _&&_, not}
 use mathlib.Core.List.{List}
-use Prim.Native.Nat.{ℕ, _+_, _/_, _%_, _^_}
+use Prim.Native.Nat.{ℕ, _+_, _%_, _^_}
 use lib.ListN.{length, getD}
 use lib.Dec.{eqb, leb}
 use Rattle.word.specs.Word.{if_then_else_, bit}

@@ -1,6 +1,6 @@
 -- `tlb::accessed` meets its contract, by its guards and the entry.
 -- Assumes nothing.
-use mathlib.Core.Path.{_≡_, refl, sym, ap, ap₂, _∙_}
+use mathlib.Core.Path.{ap, _∙_}
 use Rattle.tlb.specs.Steps.{onAccessed}
 use Rattle.tlb.proofs.Deciding.{both, accesses, not-accesses}
 use borrow.Author.Needs.{needs}

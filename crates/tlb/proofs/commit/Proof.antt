@@ -1,6 +1,6 @@
 -- `tlb::commit` meets its contract, by the decision.
 -- Assumes nothing.
-use mathlib.Core.Path.{_≡_, refl, sym, ap, ap₂, _∙_}
+use mathlib.Core.Path.{_∙_}
 use Rattle.tlb.proofs.Deciding.{refused-all, adds-all, marks-all, marks-fit}
 use borrow.Author.Needs.{needs}
 use Rattle.tlb.proofs.commit.Statement.{statement}

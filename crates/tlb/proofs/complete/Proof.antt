@@ -1,8 +1,8 @@
 -- `tlb::complete` meets its contract: it is the definition, at the level.
 -- Assumes nothing.
-use mathlib.Core.Path.{_≡_, refl, sym, ap, ap₂, _∙_}
+use mathlib.Core.Path.{ap}
 use Prim.Native.Nat.{ℕ}
-use lib.Dec.{eqb, leb, ltb}
+use lib.Dec.{eqb}
 use borrow.Author.Needs.{needs}
 use Rattle.tlb.proofs.complete.Statement.{statement}
 use Rattle.tlb.proofs.complete.Tie as tie

@@ -1,8 +1,7 @@
 -- `tlb::create` meets its contract, by its two guards.
 -- Assumes nothing.
-use mathlib.Core.Path.{_≡_, refl, sym, ap, ap₂, _∙_}
+use mathlib.Core.Path.{ap, ap₂, _∙_}
 use Rattle.tlb.specs.declared.Decision.the-variants.{Adds}
-use Prim.Native.Nat.{ℕ}
 use Rattle.tlb.specs.Walks.{winit}
 use Rattle.tlb.proofs.Deciding.{both, created, not-created}
 use borrow.Author.Needs.{needs}

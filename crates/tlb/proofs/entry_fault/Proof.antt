@@ -1,8 +1,6 @@
 -- `tlb::entry_fault` meets its contract, in each case.
 -- Assumes nothing.
 use Rattle.tlb.proofs.Faults.{word-faults, word-passes, missing-undecided}
-use mathlib.Core.Path.{_≡_, refl, sym, ap, ap₂, _∙_}
-use Rattle.tlb.specs.Walks.{entryFault}
 use borrow.Author.Needs.{needs}
 use Rattle.tlb.proofs.entry_fault.Statement.{statement}
 use Rattle.tlb.proofs.entry_fault.Tie as tie

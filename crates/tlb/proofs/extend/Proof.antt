@@ -1,6 +1,6 @@
 -- `tlb::extend` meets its contract, by its guards and the entry.
 -- Assumes nothing.
-use mathlib.Core.Path.{_≡_, refl, sym, ap, ap₂, _∙_}
+use mathlib.Core.Path.{ap, _∙_}
 use Rattle.records.specs.Records.{walks}
 use Rattle.tlb.specs.Steps.{runs, asidOf, onExtend}
 use Rattle.tlb.proofs.Deciding.{both, extends, not-extends, open-walk}

@@ -1,6 +1,5 @@
 -- `tlb::extendable` meets its contract: it is the definition, at what the calls give.
 -- Assumes nothing.
-use mathlib.Core.Path.{_≡_, refl, sym, ap, ap₂, _∙_}
 use Rattle.tlb.specs.Walks.{complete}
 use Rattle.tlb.specs.Steps.{extendable}
 use borrow.Author.Needs.{needs}

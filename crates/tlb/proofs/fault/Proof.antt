@@ -1,6 +1,6 @@
 -- `tlb::fault` meets its contract: the entry matters where an incomplete walk is a hit.
 -- Assumes nothing.
-use mathlib.Core.Path.{_≡_, refl, sym, ap, ap₂, _∙_}
+use mathlib.Core.Path.{ap, _∙_}
 use Rattle.tlb.specs.Walks.{entryFault}
 use Rattle.tlb.proofs.Faults.{fault-asked, fault-passed}
 use borrow.Author.Needs.{needs}

@@ -1,6 +1,6 @@
 -- `tlb::index` meets its contract, at level 2 and at level 1.
 -- Assumes nothing.
-use mathlib.Core.Path.{_≡_, refl, sym, ap, ap₂, _∙_}
+use mathlib.Core.Path.{sym, _∙_}
 use Rattle.tlb.proofs.Fields.{index-two, index-one}
 use borrow.Author.Needs.{needs}
 use Rattle.tlb.proofs.index.Statement.{statement}

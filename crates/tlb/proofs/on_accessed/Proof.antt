@@ -1,6 +1,6 @@
 -- `tlb::on_accessed` meets its contract, by the entry.
 -- Assumes nothing.
-use mathlib.Core.Path.{_≡_, refl, sym, ap, ap₂, _∙_}
+use mathlib.Core.Path.{sym, _∙_}
 use Rattle.tlb.proofs.Deciding.{marked, not-marked, accessed-missing}
 use borrow.Author.Needs.{needs}
 use Rattle.tlb.proofs.on_accessed.Statement.{statement}

@@ -1,7 +1,7 @@
 -- `tlb::on_extend` meets its contract, by the entry.
 -- Assumes nothing.
-use mathlib.Core.Path.{_≡_, refl, sym, ap, ap₂, _∙_}
-use mathlib.Core.Bool.{Bool, true, false, not, _&&_, _||_}
+use mathlib.Core.Path.{ap}
+use mathlib.Core.Bool.{not}
 use Rattle.tlb.proofs.Deciding.{both, added, not-added, extend-missing}
 use borrow.Author.Needs.{needs}
 use Rattle.tlb.proofs.on_extend.Statement.{statement}

@@ -1,8 +1,6 @@
 -- `tlb::pte` meets its contract, whether the entry is there or not.
 -- Assumes nothing.
 use Rattle.tlb.proofs.Entries.{read-in, read-out}
-use mathlib.Core.Path.{_≡_, refl, sym, ap, ap₂, _∙_}
-use native.Mathlib.Omega.{arith}
 use borrow.Author.Needs.{needs}
 use Rattle.tlb.proofs.pte.Statement.{statement}
 use Rattle.tlb.proofs.pte.Tie as tie

@@ -1,6 +1,6 @@
 -- `tlb::ptea` meets its contract: the base page shifted, and the sum.
 -- Assumes nothing.
-use mathlib.Core.Path.{_≡_, refl, sym, ap, ap₂, _∙_}
+use mathlib.Core.Path.{ap₂, _∙_}
 use Prim.Native.Nat.{ℕ}
 use native.Mathlib.Omega.{arith}
 use Prim.Native.Nat.{_+_, _*_, _%_, _^_}

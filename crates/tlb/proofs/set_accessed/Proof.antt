@@ -1,6 +1,6 @@
 -- `tlb::set_accessed` meets its contract, whether the bit is set or not.
 -- Assumes nothing.
-use mathlib.Core.Path.{_≡_, refl, sym, ap, ap₂, _∙_}
+use mathlib.Core.Path.{sym, _∙_}
 use native.Mathlib.Omega.{arith}
 use Rattle.tlb.proofs.Entries.{set-d-set, set-d-clear, clear}
 use borrow.Author.Needs.{needs}

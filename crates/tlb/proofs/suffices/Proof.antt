@@ -1,6 +1,6 @@
 -- `tlb::suffices` meets its contract: it is the definition.
 -- Assumes nothing.
-use mathlib.Core.Path.{_≡_, refl, sym, ap, ap₂, _∙_}
+use mathlib.Core.Path.{refl}
 use Rattle.tlb.specs.Walks.{suffices}
 use Rattle.tlb.proofs.suffices.Statement.{statement}
 use Rattle.tlb.proofs.suffices.Tie as tie

@@ -1,6 +1,6 @@
 -- `tlb::walk_of` meets its contract: it is the definition.
 -- Assumes nothing.
-use mathlib.Core.Path.{_≡_, refl, sym, ap, ap₂, _∙_}
+use mathlib.Core.Path.{refl}
 use Rattle.tlb.specs.Walks.{walkOf}
 use borrow.Author.Needs.{needs}
 use Rattle.tlb.proofs.walk_of.Statement.{statement}

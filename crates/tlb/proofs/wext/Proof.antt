@@ -1,6 +1,6 @@
 -- `tlb::wext` meets its contract, by whether the entry is present.
 -- Assumes nothing.
-use mathlib.Core.Path.{_≡_, refl, sym, ap, ap₂, _∙_}
+use mathlib.Core.Path.{sym, _∙_}
 use native.Mathlib.Omega.{arith}
 use Rattle.tlb.proofs.Fields.{wext-parts, wext-absent, incomplete-level}
 use borrow.Author.Needs.{needs}

@@ -1,6 +1,5 @@
 -- `tlb::wext_faults` meets its contract: it is the definition, at the fields.
 -- Assumes nothing.
-use mathlib.Core.Path.{_≡_, refl, sym, ap, ap₂, _∙_}
 use Rattle.tlb.specs.Walks.{wextFault}
 use borrow.Author.Needs.{needs}
 use Rattle.tlb.proofs.wext_faults.Statement.{statement}

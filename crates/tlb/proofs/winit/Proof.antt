@@ -1,6 +1,5 @@
 -- `tlb::winit` meets its contract: it is the definition.
 -- Assumes nothing.
-use mathlib.Core.Path.{_≡_, refl, sym, ap, ap₂, _∙_}
 use Rattle.tlb.specs.Walks.{winit}
 use borrow.Author.Needs.{needs}
 use Rattle.tlb.proofs.winit.Statement.{statement}
