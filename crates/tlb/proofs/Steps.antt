@@ -31,9 +31,6 @@ refused-adds e = let z : _≡_ {A = ℕ} 0 1 = cc in omega arith
 refused-marks : {n a v : ℕ} → Refused n ≡ Marks a v → ⊥
 refused-marks e = let z : _≡_ {A = ℕ} 0 1 = cc in omega arith
 
-adds-marks : {w : Walk} {a v : ℕ} → Adds w ≡ Marks a v → ⊥
-adds-marks e = let z : _≡_ {A = ℕ} 0 1 = cc in omega arith
-
 -- ---- entries that are there
 
 pub entry-word : (m : List ℕ) (a : ℕ) {v : ℕ} → entryAt m a ≡ Word v → (v ≡ bytesAt 4 m a) × (a + 4 ≤ length m)
@@ -192,3 +189,24 @@ accessed-fits u a tlb w m = go (tlbAccessed u a tlb w (entryAt m (ptea w))) refl
     go (Refused n) e = refl
     go (Adds x) e = refl
     go (Marks at v) e = le-leb (at + 4) (length m) (marks-in u a tlb w m e)
+
+pub create-fits : (u r : Bool) (o a v : ℕ) (m : List ℕ) → inMemory (tlbCreate u r o a v) m ≡ true
+unfolding tlbCreate inMemory
+create-fits u r o a v m = go (u && r)
+  where
+    go : (t : Bool) → inMemory (if t then Adds (winit v o a) else Refused 6) m ≡ true
+    go true = refl
+    go false = refl
+
+pub extend-fits : (r : Bool) (a : ℕ) (tlb : List Walk) (w : Walk) (e : Entry) (m : List ℕ) → inMemory (tlbExtend r a tlb w e) m ≡ true
+unfolding tlbExtend onExtend inMemory
+extend-fits r a tlb w e m = go (r && extendable a tlb w) e
+  where
+    added : (v : ℕ) (t : Bool) → inMemory (if t then Adds (wext w v) else Refused 6) m ≡ true
+    added v true = refl
+    added v false = refl
+
+    go : (t : Bool) (e : Entry) → inMemory (if t then onExtend w e else Refused 6) m ≡ true
+    go false e = refl
+    go true (Word v) = added v (pteA v && not (wextFault v 0))
+    go true Missing = refl
