@@ -1,0 +1,90 @@
+-- What the TLB's own steps decide and do (000, 11.3: tlb-create, tlb-extend, tlb-set-accessed). A guard that is decided and fails is
+-- refusal 6; where none fails and the entry that one needs is not in memory, 7.
+-- Assumes nothing.
+use mathlib.Core.Bool.{Bool, true, _&&_, not}
+use mathlib.Core.List.{List}
+use Prim.Native.Nat.{ℕ, _+_, _%_, _^_}
+use lib.ListN.{length, getD}
+use lib.Dec.{eqb, leb}
+use Rattle.word.specs.Word.{if_then_else_, bit}
+use Rattle.word.specs.Bytes.{put}
+use Rattle.layout.specs.Layout.{spr, mode, asid, pto, running}
+use Rattle.records.specs.declared.Walk.{Walk}
+use Rattle.records.specs.Records.{among, walks, addWalk}
+use Rattle.tlb.specs.declared.Entry.{Entry}
+use Rattle.tlb.specs.declared.Entry.the-variants.{Word, Missing}
+use Rattle.tlb.specs.declared.Decision.{Decision}
+use Rattle.tlb.specs.declared.Decision.the-variants.{Refused, Adds, Marks}
+use Rattle.tlb.specs.Walks.{walkAsid, baseAddress, pteA, pteP, ptea, pte, winit, wext, wextFault, complete, set-d}
+
+-- ---- a core's block
+
+-- user mode is bit 0 of the mode register
+abbrev pub userMode : List ℕ → Bool
+userMode b = bit (getD b (spr + mode) 0) 0
+
+abbrev pub runs : List ℕ → Bool
+runs b = eqb (getD b running 0) 1
+
+-- the address space: bits 5 to 0 of its register; the page table origin's page
+abbrev pub asidOf : List ℕ → ℕ
+asidOf b = getD b (spr + asid) 0 % 2 ^ 6
+
+abbrev pub originOf : List ℕ → ℕ
+originOf b = baseAddress (getD b (spr + pto) 0)
+
+-- ---- decisions
+
+-- tlb-create: in user mode, while the core runs
+unfoldable pub tlbCreate : Bool → Bool → ℕ → ℕ → ℕ → Decision
+tlbCreate user run origin a va = if user && run then Adds (winit va origin a) else Refused 6
+
+-- w ∈ tlb, incomplete, and of the current address space
+unfoldable pub extendable : ℕ → List Walk → Walk → Bool
+extendable a tlb w = among w tlb && (not (complete w) && eqb (walkAsid w) a)
+
+-- tlb-extend: the accessed bit is set, and extension with rights 000 does not fault
+unfoldable pub onExtend : Walk → Entry → Decision
+onExtend w (Word e) = if pteA e && not (wextFault e 0b000) then Adds (wext w e) else Refused 6
+onExtend w Missing = Refused 7
+
+unfoldable pub tlbExtend : Bool → ℕ → List Walk → Walk → Entry → Decision
+tlbExtend run a tlb w e = if run && extendable a tlb w then onExtend w e else Refused 6
+
+-- tlb-accessed: the entry is present
+unfoldable pub onAccessed : Walk → Entry → Decision
+onAccessed w (Word e) = if pteP e then Marks (ptea w) (set-d e) else Refused 6
+onAccessed w Missing = Refused 7
+
+unfoldable pub tlbAccessed : Bool → ℕ → List Walk → Walk → Entry → Decision
+tlbAccessed user a tlb w e = if user && extendable a tlb w then onAccessed w e else Refused 6
+
+-- ---- the decisions on a block and a memory
+
+abbrev pub createOn : List ℕ → ℕ → Decision
+createOn b va = tlbCreate (userMode b) (runs b) (originOf b) (asidOf b) va
+
+abbrev pub extendOn : List ℕ → List ℕ → Walk → Decision
+extendOn b m w = tlbExtend (runs b) (asidOf b) (walks b) w (pte m w)
+
+abbrev pub accessedOn : List ℕ → List ℕ → Walk → Decision
+accessedOn b m w = tlbAccessed (userMode b) (asidOf b) (walks b) w (pte m w)
+
+-- ---- what is done
+
+-- a walk is added to the block; an entry written to memory leaves the block, and every walk in it, as it was
+unfoldable pub blockAfter : Decision → List ℕ → List ℕ
+blockAfter (Refused n) b = b
+blockAfter (Adds w) b = addWalk b w
+blockAfter (Marks a e) b = b
+
+unfoldable pub memoryAfter : Decision → List ℕ → List ℕ
+memoryAfter (Refused n) m = m
+memoryAfter (Adds w) m = m
+memoryAfter (Marks a e) m = put 4 m a e
+
+-- the entry that is written lies in memory
+unfoldable pub inMemory : Decision → List ℕ → Bool
+inMemory (Refused n) m = true
+inMemory (Adds w) m = true
+inMemory (Marks a e) m = leb (a + 4) (length m)
