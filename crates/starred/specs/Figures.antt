@@ -11,6 +11,7 @@ use Rattle.decode.specs.Mnemonics.{itype, rtype, compi, compr, alu, mulacc, b, 
 use Rattle.units.specs.Alu.{alures, ovf, alucon}
 use Rattle.units.specs.Multiplication.{mures}
 use Rattle.units.specs.Branch.{bcres}
+use Rattle.tlb.specs.Walks.{walkOf}
 use Rattle.apic.specs.Vectors.{withBit, withVector, least}
 use Rattle.apic.specs.LocalApic.{ended, written}
 use Rattle.apic.specs.Figures.{isrAfterEoi}
@@ -68,10 +69,12 @@ figures =
     figure (deltaInstr (core 0x0ffffffc 0 0) (wordOf 0b000010 0 0 1) 0 .pc) 0x10000004 ∷
     -- beq taken, immediate FFFF, at 100 goes to FC
     figure (deltaInstr (core 0x100 0 0) (wordOf 0b000100 0 0 0xffff) 0 .pc) 0xfc ∷
+    -- va 12345, asid 3, level 1, rights 5: first word 123450CD
+    figure (walkOf 0x12345 3 1 5 0 .first) 0x123450cd ∷
     -- ISR holds vectors 5 and 9: an EOI clears 5
     figure isrAfterEoi (2 ^ 9) ∷
     []
 
 pub figures-hold : map (λ (f : Figure). f .found) figures ≡ map (λ (f : Figure). f .printed) figures
-unfolding deltaInstr decoded rowOf alures ovf alucon mures bcres signed sxt gprw rdes cad gprdin itype rtype compi compr alu mulacc b jump su load cas jal jalr movg2s movs2g mfhi mflo mthi mtlo mul written ended least withVector withBit
+unfolding deltaInstr decoded rowOf alures ovf alucon mures bcres signed sxt gprw rdes cad gprdin itype rtype compi compr alu mulacc b jump su load cas jal jalr movg2s movs2g mfhi mflo mthi mtlo mul walkOf written ended least withVector withBit
 figures-hold = refl

@@ -8,7 +8,7 @@ use native.Mathlib.Omega.{arith}
 use lib.ListN.{length}
 use lib.Dec.{eqb}
 use borrow.Author.Tests.{leb-true, not-true}
-use Rattle.word.specs.Word.{bit}
+use Rattle.word.specs.Word.{isSet}
 use Rattle.word.specs.Bytes.{put}
 use Rattle.records.specs.declared.Walk.{Walk}
 use Rattle.records.specs.Records.{among, addWalk}
@@ -21,7 +21,7 @@ use Rattle.tlb.specs.Walks.{complete, walkAsid, pteA, pteP, ptea, wext, 
 use Rattle.tlb.specs.Steps.{tlbCreate, tlbExtend, tlbAccessed, extendable, onExtend, onAccessed, blockAfter, memoryAfter, inMemory}
 
 -- bit 0 of a word
-pub low-bit : (n : ℕ) → eqb (n % 2) 1 ≡ bit n 0
+pub low-bit : (n : ℕ) → eqb (n % 2) 1 ≡ isSet n 0
 low-bit n = let e : n % 2 ≡ n / 2 ^ 0 % 2 = omega arith in ap (λ (k : ℕ). eqb k 1) e
 
 -- two tests of a step's guards, as the code has them

@@ -152,8 +152,3 @@ incomplete-level w e = let n = eqb-false (walkLevel w) 0 e in omega arith
 -- the base page of an address is its high 20 bits
 pub base-address : (a : ℕ) → a < 2 ^ 32 → a / 2 ^ 12 ≡ baseAddress a
 base-address a h = omega arith
-
--- the figure: va 12345, asid 3, level 1, rights 5
-pub figure : (ba : ℕ) → walkOf 0x12345 3 1 5 ba .first ≡ 0x123450CD
-unfolding walkOf
-figure ba = refl

@@ -6,7 +6,7 @@ use mathlib.Core.List.{List}
 use Prim.Native.Nat.{ℕ, _+_, _%_, _^_}
 use lib.ListN.{length, getD}
 use lib.Dec.{eqb, leb}
-use Rattle.word.specs.Word.{if_then_else_, bit}
+use Rattle.word.specs.Word.{if_then_else_, isSet}
 use Rattle.word.specs.Bytes.{put}
 use Rattle.layout.specs.Layout.{spr, mode, asid, pto, running}
 use Rattle.records.specs.declared.Walk.{Walk}
@@ -21,7 +21,7 @@ use Rattle.tlb.specs.Walks.{walkAsid, baseAddress, pteA, pteP, ptea, pte
 
 -- user mode is bit 0 of the mode register
 abbrev pub userMode : List ℕ → Bool
-userMode b = bit (getD b (spr + mode) 0) 0
+userMode b = isSet (getD b (spr + mode) 0) 0
 
 abbrev pub runs : List ℕ → Bool
 runs b = eqb (getD b running 0) 1

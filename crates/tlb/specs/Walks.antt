@@ -5,7 +5,7 @@ use mathlib.Core.List.{List, [], _∷_}
 use Prim.Native.Nat.{ℕ, _+_, _-_, _*_, _/_, _%_, _^_}
 use lib.ListN.{length}
 use lib.Dec.{eqb, leb}
-use Rattle.word.specs.Word.{if_then_else_, bit, plus}
+use Rattle.word.specs.Word.{if_then_else_, isSet, plus}
 use Rattle.word.specs.Bytes.{bytesAt}
 use Rattle.records.specs.declared.Walk.{Walk}
 use Rattle.records.specs.Records.{levelOf}
@@ -59,13 +59,13 @@ abbrev pub pteBa : ℕ → ℕ
 pteBa e = e / 2 ^ 12
 
 abbrev pub pteP : ℕ → Bool
-pteP e = bit e 11
+pteP e = isSet e 11
 
 abbrev pub pteR : ℕ → ℕ
 pteR e = e / 2 ^ 8 % 2 ^ 3
 
 abbrev pub pteA : ℕ → Bool
-pteA e = bit e 7
+pteA e = isSet e 7
 
 -- definition 10: ptea(ba, i), and ptea(w) with the index px2 at level 2 and px1 at level 1
 abbrev pub pteaAt : ℕ → ℕ → ℕ
