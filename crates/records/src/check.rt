@@ -79,7 +79,7 @@ fn records_once(b: &[u32]) -> bool
 }
 
 // The length of a chain.
-pub fn chain_length(b: &[u32], head: usize) -> usize
+pub(crate) fn chain_length(b: &[u32], head: usize) -> usize
     requires { ⌜ length (now b) ≡ 256 ⌝ }
     requires { ⌜ head < 256 ⌝ }
     requires { ⌜ x.all x.small (x.chainAt (now b) head) ≡ true ⌝ }
@@ -226,7 +226,7 @@ fn linked(b: &[u32]) -> bool
 }
 
 // Whether the walk is among those from record `start` on, of which `fuel` may follow.
-pub fn walk_from(b: &[u32], start: u32, fuel: usize, w: Walk) -> bool
+pub(crate) fn walk_from(b: &[u32], start: u32, fuel: usize, w: Walk) -> bool
     requires { ⌜ length (now b) ≡ 256 ⌝ }
     requires { ⌜ x.all x.small (x.chain fuel (now b) start) ≡ true ⌝ }
     ensures { λ r. ⌜ r ≡ x.among w (map (x.walkIn (now (b .entry))) (x.chain fuel (now (b .entry)) start)) ⌝ }

@@ -38,9 +38,9 @@ part (suc k) j h =
     let q : 256 ≤ length (drop (256 * j) (madeBlocks k)) = omega (arith, blocks-long k, length-drop (256 * j) (madeBlocks k)) in
     ap (take 256) (drop-append-le (256 * j) (madeBlocks k) (madeBlock k) p) ∙ take-append-le 256 (drop (256 * j) (madeBlocks k)) (madeBlock k) q ∙ part k j (omega arith))
 
-block-made : (n p j : ℕ) → j < n → block (made n p) j ≡ madeBlock j
+pub made-block : (n p j : ℕ) → j < n → block (made n p) j ≡ madeBlock j
 unfolding block made
-block-made n p j h = ap (take 256) (drop-append-add (n ∷ p ∷ replicate 30 0) (madeBlocks n) (256 * j)) ∙ part n j h
+made-block n p j h = ap (take 256) (drop-append-add (n ∷ p ∷ replicate 30 0) (madeBlocks n) (256 * j)) ∙ part n j h
 
 pub made-long : (n p : ℕ) → length (made n p) ≡ 32 + 256 * n
 unfolding made
@@ -52,7 +52,7 @@ made-sound n p n₁ n₄ p₁ p₄ =
     of-sound (made n p) (4096 * p)
     (of-header (4096 * p) (made n p)
     (record { some-cores = n₁; few-cores = n₄; some-pages = p₁; few-pages = p₄; long = made-long n p; bytes = refl; rest = refl; few-lines = omega arith }))
-    (blocks-intro n (4096 * p) (made n p) (λ j h. ap (soundBlock (4096 * p)) (block-made n p j h) ∙ made-block-sound (4096 * p) j))
+    (blocks-intro n (4096 * p) (made n p) (λ j h. ap (soundBlock (4096 * p)) (made-block n p j h) ∙ made-block-sound (4096 * p) j))
 
 -- ---- what 12.1 says of a core as made
 
