@@ -10,8 +10,9 @@ use lib.Seq.{ext-getD}
 use Rattle.word.proofs.Laws.{side}
 use Rattle.layout.specs.Layout.{blockAt}
 use Rattle.apic.proofs.Kept.{Words}
-use Rattle.ioapic.specs.Blocks.{block, withBlock, onBlock, onBlocks}
-use Rattle.ioapic.proofs.Tables.{Has, block-long, word-of-block, withBlock-long, word-inside, word-before, word-outside, block-same, block-other}
+use Rattle.layout.specs.Blocks.{block, withBlock}
+use Rattle.ioapic.specs.Blocks.{onBlock, onBlocks}
+use Rattle.layout.proofs.Blocks.{Has, block-long, block-at, with-long, with-inside, with-before, with-outside, with-block, with-other}
 
 -- f keeps the length of a block
 abbrev pub Sized : (List ℕ → List ℕ) → Type 0
@@ -23,20 +24,20 @@ Wordly f = (b : List ℕ) → Words b → Words (f b)
 
 pub block-words : (t : List ℕ) (k : ℕ) → Has t k → Words t → Words (block t k)
 block-words t k h w x =
-    ⊎-elim (λ l. subst (λ (y : ℕ). y < 2 ^ 32) (sym (word-of-block t k x l)) (w (blockAt k + x)))
+    ⊎-elim (λ l. subst (λ (y : ℕ). y < 2 ^ 32) (sym (block-at t k x l)) (w (blockAt k + x)))
     (λ l. subst (λ (y : ℕ). y < 2 ^ 32) (sym (List·getD-eq-default (block t k) 0 (omega (arith, block-long t k h)))) (omega arith))
     (side x 256)
 
 module _ (t : List ℕ) (k : ℕ) (b : List ℕ) (h : Has t k) (e : length b ≡ 256) where
   pub withBlock-words : Words t → Words b → Words (withBlock t k b)
   withBlock-words wt wb x =
-      ⊎-elim (λ l. subst (λ (y : ℕ). y < 2 ^ 32) (sym (word-outside t k b h e x (inl l))) (wt x))
+      ⊎-elim (λ l. subst (λ (y : ℕ). y < 2 ^ 32) (sym (with-outside t k b h e x (inl l))) (wt x))
       (λ l. ⊎-elim
       (λ m.
       let p : x ≡ blockAt k + (x - blockAt k) = omega arith in
       subst (λ (n : ℕ). getD (withBlock t k b) n 0 < 2 ^ 32) (sym p)
-      (subst (λ (y : ℕ). y < 2 ^ 32) (sym (word-inside t k b h e (x - blockAt k) (omega arith))) (wb (x - blockAt k))))
-      (λ m. subst (λ (y : ℕ). y < 2 ^ 32) (sym (word-outside t k b h e x (inr m))) (wt x))
+      (subst (λ (y : ℕ). y < 2 ^ 32) (sym (with-inside t k b h e (x - blockAt k) (omega arith))) (wb (x - blockAt k))))
+      (λ m. subst (λ (y : ℕ). y < 2 ^ 32) (sym (with-outside t k b h e x (inr m))) (wt x))
       (side x (blockAt k + 256)))
       (side x (blockAt k))
 
@@ -47,7 +48,7 @@ block-agrees t t′ j l s h =
     ext-getD 0 (block t′ j) (block t j) (block-long t′ j (omega arith) ∙ sym (block-long t j h))
     (λ x m.
     let q : x < 256 = omega (arith, block-long t′ j (omega arith)) in
-    word-of-block t′ j x q ∙ s (blockAt j + x) (omega arith) ∙ sym (word-of-block t j x q))
+    block-at t′ j x q ∙ s (blockAt j + x) (omega arith) ∙ sym (block-at t j x q))
 
 -- ---- at one block
 
@@ -56,16 +57,16 @@ module _ (f : List ℕ → List ℕ) (sized : Sized f) (t : List ℕ) (k : ℕ) 
   long = sized (block t k) (block-long t k h)
 
   pub onBlock-long : length (onBlock f k t) ≡ length t
-  onBlock-long = withBlock-long t k (f (block t k)) h long
+  onBlock-long = with-long t k (f (block t k)) h long
 
   pub onBlock-same : block (onBlock f k t) k ≡ f (block t k)
-  onBlock-same = block-same t k (f (block t k)) h long
+  onBlock-same = with-block t k (f (block t k)) h long
 
   pub onBlock-other : (j : ℕ) → Has t j → (j ≡ k → ⊥) → block (onBlock f k t) j ≡ block t j
-  onBlock-other j hj n = block-other t k (f (block t k)) h long j hj n
+  onBlock-other j hj n = with-other t k (f (block t k)) h long j n hj
 
   pub onBlock-header : (x : ℕ) → x < 32 → getD (onBlock f k t) x 0 ≡ getD t x 0
-  onBlock-header x l = word-before t k (f (block t k)) h long x (omega arith)
+  onBlock-header x l = with-before t k (f (block t k)) h long x (omega arith)
 
   pub onBlock-words : Wordly f → Words t → Words (onBlock f k t)
   onBlock-words g w = withBlock-words t k (f (block t k)) h long w (g (block t k) (block-words t k h w))

@@ -16,10 +16,11 @@ use Rattle.apic.specs.LocalApic.{idOf, fixed, irr}
 use Rattle.apic.specs.Active.{idle, reached, eoiSent}
 use Rattle.apic.proofs.Kept.{Words, Passive, kept-all, kept-if, kept-idle, kept-reached, kept-vector}
 use Rattle.apic.proofs.Kept as local
-use Rattle.ioapic.specs.Blocks.{block, onBlock}
+use Rattle.layout.specs.Blocks.{block}
+use Rattle.ioapic.specs.Blocks.{onBlock}
 use Rattle.ioapic.specs.IoApic.{entry, dest, vect, acknowledged, ended, handed}
 use Rattle.ioapic.specs.Bus.{broadcast, sendIpi, sendEoi, deliver}
-use Rattle.ioapic.proofs.Tables.{Has}
+use Rattle.layout.proofs.Blocks.{Has}
 use Rattle.ioapic.proofs.Header.{Kept, kept-ended, kept-handed, ended-entry}
 use Rattle.ioapic.proofs.Blocks.{Sized, Wordly, block-agrees, onBlock-long, onBlock-same, onBlock-other, onBlock-header, onBlock-words, onBlocks-long, onBlocks-header, onBlocks-at, onBlocks-words}
 

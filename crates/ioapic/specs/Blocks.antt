@@ -1,16 +1,8 @@
--- The block of a core in the tables.
+-- A function at the block of one core, and at the block of each.
 -- Assumes nothing.
-use mathlib.Core.List.{List, _++_}
+use mathlib.Core.List.{List}
 use Prim.Native.Nat.{ℕ, zero, suc}
-use lib.ListN.{take, drop}
-use Rattle.layout.specs.Layout.{blockWords, blockAt}
-
-abbrev pub block : List ℕ → ℕ → List ℕ
-block t k = take blockWords (drop (blockAt k) t)
-
--- the tables with another block for core k
-abbrev pub withBlock : List ℕ → ℕ → List ℕ → List ℕ
-withBlock t k b = take (blockAt k) t ++ (b ++ drop blockWords (drop (blockAt k) t))
+use Rattle.layout.specs.Blocks.{block, withBlock}
 
 -- f at the block of core k
 abbrev pub onBlock : (List ℕ → List ℕ) → ℕ → List ℕ → List ℕ

@@ -11,7 +11,7 @@ use lib.Dec.{eqb}
 use mir.Val.{boolByte}
 use borrow.Author.Tests.{ne-eqb}
 use Rattle.layout.specs.Layout.{recordAt}
-use Rattle.tables.specs.Views.{withBlock}
+use Rattle.layout.specs.Blocks.{withBlock}
 use Rattle.tables.specs.Make.{chained, madeRunning, madeBlock, madeBlocks, made}
 
 pub record Chaining (d : List ℕ) (r : ℕ) (b : List ℕ) : Type 0 where

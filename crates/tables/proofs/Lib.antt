@@ -1,6 +1,5 @@
 pub mod Copy
 pub mod Fresh
-pub mod Blocks
 pub mod Parts
 pub mod Answers
 pub mod Lift

@@ -12,9 +12,10 @@ use lib.Seq.{getD-set-other, getD-set-same}
 use lib.Dec.{eqb}
 use Rattle.layout.specs.Layout as at
 use Rattle.records.proofs.Counts.{either}
-use Rattle.tables.specs.Views.{coresOf, pagesOf, linesOf, redirectOf, block, withBlock}
+use Rattle.layout.specs.Blocks.{block, withBlock}
+use Rattle.tables.specs.Views.{coresOf, pagesOf, linesOf, redirectOf}
 use Rattle.tables.specs.Sound.{soundBlock, sound}
-use Rattle.tables.proofs.Blocks.{block-long, with-long, with-block, with-other, with-header, set-block}
+use Rattle.layout.proofs.Blocks.{block-long, with-long, with-block, with-other, with-header, set-block}
 use Rattle.tables.proofs.Places.{run-same}
 use Rattle.tables.proofs.Parts.{Header, header-of, of-header, blocks-elim, blocks-intro, sound-header, sound-blocks, of-sound}
 

@@ -13,7 +13,8 @@ use Rattle.layout.specs.Layout as at
 use Rattle.records.specs.Contents.{soundRecords}
 use Rattle.records.proofs.Counts.{and-left, and-right, and-both, either}
 use Rattle.records.proofs.Whole.{fails}
-use Rattle.tables.specs.Views.{coresOf, pagesOf, linesOf, block}
+use Rattle.layout.specs.Blocks.{block}
+use Rattle.tables.specs.Views.{coresOf, pagesOf, linesOf}
 use Rattle.tables.specs.Sound.{zeroFrom, upTo, soundWords, soundBlock, soundBlocks, soundHeader, sound}
 
 -- ---- the header

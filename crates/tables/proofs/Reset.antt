@@ -15,7 +15,8 @@ use Rattle.records.specs.Records.{freeNumbers, chain, count, each, all, stores,
 use Rattle.records.specs.Contents.{soundRecords, storeSound, walkSound}
 use Rattle.records.proofs.Counts.{either, and-left, and-right}
 use Rattle.tables.specs.declared.make.Made.the-variants.{Done, Cores, Memory, Length}
-use Rattle.tables.specs.Views.{block, registersOf, runningOf, portByte}
+use Rattle.layout.specs.Blocks.{block}
+use Rattle.tables.specs.Views.{registersOf, runningOf, portByte}
 use Rattle.tables.specs.Sound.{upTo, soundWords, soundBlock, sound}
 use Rattle.tables.specs.Make.{chained, madeRunning, madeBlock, madeBlocks, made, wholePages, answer, numberOf}
 use Rattle.tables.proofs.Fresh.{block-long, blocks-long}

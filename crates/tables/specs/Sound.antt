@@ -7,7 +7,8 @@ use lib.ListN.{length, getD}
 use lib.Dec.{eqb, ltb, leb}
 use Rattle.layout.specs.Layout as at
 use Rattle.records.specs.Contents.{soundRecords}
-use Rattle.tables.specs.Views.{coresOf, pagesOf, linesOf, runningOf, sipirrOf, sipivectOf, initrrOf, block}
+use Rattle.layout.specs.Blocks.{block}
+use Rattle.tables.specs.Views.{coresOf, pagesOf, linesOf, runningOf, sipirrOf, sipivectOf, initrrOf}
 
 -- the d words from i are zero
 abbrev pub zeroFrom : ℕ → ℕ → List ℕ → Bool

@@ -30,16 +30,7 @@ iowinOf t = getD t at.iowin 0
 abbrev pub redirectOf : List ℕ → List ℕ
 redirectOf t = take 24 (drop at.redirect t)
 
--- ---- the block of a core
-
-unfoldable pub block : List ℕ → ℕ → List ℕ
-block t k = take at.blockWords (drop (at.blockAt k) t)
-
--- the tables with another block for core k
-unfoldable pub withBlock : List ℕ → ℕ → List ℕ → List ℕ
-withBlock t k b = take (at.blockAt k) t ++ (b ++ drop at.blockWords (drop (at.blockAt k) t))
-
--- ---- its registers
+-- ---- the registers of a block
 
 unfoldable pub registersOf : List ℕ → Registers
 registersOf b =
@@ -52,7 +43,7 @@ withRegisters b r = r .gpr ++ (r .spr ++ (r .pc ∷ r .hi ∷ r .lo ∷ drop at.
 abbrev pub runningOf : List ℕ → ℕ
 runningOf b = getD b at.running 0
 
--- ---- its local APIC
+-- ---- the local APIC of a block
 
 abbrev pub portsOf : List ℕ → List ℕ
 portsOf b = take 32 (drop at.ports b)

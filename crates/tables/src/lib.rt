@@ -24,7 +24,7 @@ ghost use mathlib.Core.Path.{_≡_};
 ghost use Prim.Native.Nat.{_+_, _*_, _<_, _≤_};
 ghost use lib.ListN.{length};
 ghost use Rattle.layout.specs.Layout.{blockAt, blockWords};
-ghost use Rattle.tables.specs.Views as v;
+ghost use Rattle.layout.specs.Blocks.{block};
 ghost use Rattle.tables.specs.Sound as x;
 
 // Whether the d words from i are zero.
@@ -71,7 +71,7 @@ pub fn sound_block(b: &[u32], bytes: usize) -> bool
 // Whether the block of core k is sound.
 fn sound_core(tables: &[u32], k: usize, bytes: usize) -> bool
     requires { ⌜ (k < 4) × (blockAt k + blockWords ≤ length (now tables)) ⌝ }
-    ensures { λ r. ⌜ r ≡ x.soundBlock bytes (v.block (now (tables .entry)) k) ⌝ }
+    ensures { λ r. ⌜ r ≡ x.soundBlock bytes (block (now (tables .entry)) k) ⌝ }
 {
     let a = HEADER_WORDS + BLOCK_WORDS * k;
     let e = a + BLOCK_WORDS;

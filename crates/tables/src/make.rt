@@ -16,7 +16,7 @@ ghost use mathlib.Core.List.{_∷_, _++_};
 ghost use Prim.Native.Nat.{_+_, _*_, _<_, _≤_};
 ghost use lib.ListN.{length, drop, replicate};
 ghost use Rattle.layout.specs.Layout.{tableWords, blockAt, blockWords};
-ghost use Rattle.tables.specs.Views.{withBlock};
+ghost use Rattle.layout.specs.Blocks.{withBlock};
 ghost use Rattle.tables.specs.Make as x;
 
 // The machine is made, or what is refused: the number of cores, the memory, the length of the tables.

@@ -2,8 +2,8 @@
 -- Assumes nothing.
 use borrow.Author.Needs.{needs}
 use mathlib.Core.Path.{_∙_}
-use Rattle.tables.specs.Views.{block}
-use Rattle.tables.proofs.Blocks.{span}
+use Rattle.layout.specs.Blocks.{block}
+use Rattle.layout.proofs.Blocks.{span}
 use Rattle.tables.proofs.sound_core.Statement.{statement}
 use Rattle.tables.proofs.sound_core.Tie as tie
 

@@ -1,3 +1,4 @@
+use Rattle.layout.specs.Blocks.{block, withBlock}
 -- `ioapic::bus::broadcast` meets its contract. The invariant: the cores below j are done.
 use mathlib.Core.Path.{_≡_, refl, sym, ap, _∙_}
 use mathlib.Core.List.{List}
@@ -9,7 +10,7 @@ use Rattle.apic.specs.Active.{reached}
 use Rattle.ioapic.specs.Blocks.{onBlock, onBlocks}
 use Rattle.ioapic.specs.Bus.{broadcast}
 use Rattle.ioapic.proofs.Loops.{span, one-more-block}
-use Rattle.ioapic.proofs.Tables.{Has, block-long, withBlock-long}
+use Rattle.layout.proofs.Blocks.{Has, block-long, with-long}
 use Rattle.ioapic.proofs.bus.broadcast.Statement.{statement}
 use Rattle.ioapic.proofs.bus.broadcast.Tie as tie
 
@@ -46,6 +47,7 @@ part-reach-end : tie.Need-part-reach-end Inv-loop μ-loop
 part-reach-end c = omega arith
 
 reach-requires : tie.Need-reach-requires Inv-loop μ-loop
+unfolding block withBlock
 reach-requires c κs =
     let l = c .before .before .loop in
     simp span (block-long (l .t) (l .j) (omega arith), c .before .before .before .before .pre .2)
@@ -57,13 +59,14 @@ loop-less : tie.Need-loop-less Inv-loop μ-loop
 loop-less c = omega arith
 
 loop-again : tie.Need-loop-again Inv-loop μ-loop
+unfolding block withBlock
 loop-again c =
     let l = c .before .before .before .before .before .loop in
     let a = c .before .before .before .before .before .before .before .args in
     let h : Has (l .t) (l .j) = omega arith in (
       omega arith,
       (
-        simp span (withBlock-long (l .t) (l .j) (c .before .before .reach .last .0) h (c .before .before .reach .kept .0 ∙ simp span (block-long (l .t) (l .j) h)) ∙ l .inv .1 .0),
+        simp span (with-long (l .t) (l .j) (c .before .before .reach .last .0) h (c .before .before .reach .kept .0 ∙ simp span (block-long (l .t) (l .j) h)) ∙ l .inv .1 .0),
         simp (span, c .before .before .reach .ensures) (ap (λ (x : List ℕ). onBlock (reached (a .m) (eqb (l .j) (a .i))) (l .j) x) (l .inv .1 .1)) ∙ sym (one-more-block (λ (j : ℕ) (b : List ℕ). reached (a .m) (eqb j (a .i)) b) (l .j) (a .t .now)),
       ),
     )

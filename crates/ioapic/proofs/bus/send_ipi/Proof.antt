@@ -1,3 +1,4 @@
+use Rattle.layout.specs.Blocks.{block, withBlock}
 -- `ioapic::bus::send_ipi` meets its contract.
 use borrow.Author.Needs.{needs}
 use mathlib.Core.Path.{_∙_}
@@ -37,7 +38,7 @@ same-length : tie.Need-same-length
 same-length c = search needs
 
 returns : tie.Need-returns
-unfolding sendIpi
+unfolding sendIpi block withBlock
 returns c = c .before .before .broadcast .ensures ∙ simp (span, c .before .before .before .before .before .before .idle .ensures)
 
 pub send-ipi-spec : {M : Type 1} → statement M

@@ -1,8 +1,8 @@
 -- `tables::make::make_core` meets its contract: the block is lent as a part of the tables.
 -- Assumes nothing.
 use borrow.Author.Needs.{needs}
-use Rattle.tables.specs.Views.{withBlock}
-use Rattle.tables.proofs.Blocks.{span}
+use Rattle.layout.specs.Blocks.{withBlock}
+use Rattle.layout.proofs.Blocks.{span}
 use Rattle.tables.proofs.make.make_core.Statement.{statement}
 use Rattle.tables.proofs.make.make_core.Tie as tie
 

@@ -7,7 +7,11 @@ use mathlib.Core.List.{List, _++_}
 use native.Mathlib.Omega.{arith}
 use lib.ListN.{length, getD, set, take, drop, length-append, length-take, length-drop, take-append-drop, List·getD-append}
 use lib.Seq.{ext-getD, getD-take, getD-drop, getD-append-add, length-take-le, take-at, drop-at, drop-set-lt, take-set-lt, set-append-left}
-use Rattle.tables.specs.Views.{block, withBlock}
+use Rattle.layout.specs.Blocks.{block, withBlock}
+
+-- core k has a block
+abbrev pub Has : List ℕ → ℕ → Type 0
+Has t k = 32 + 256 * k + 256 ≤ length t
 
 -- what `a + 256` ends
 pub span : (a : ℕ) → a + 256 - a ≡ 256
@@ -50,6 +54,14 @@ module _ (t : List ℕ) (k : ℕ) (b : List ℕ) (h : 32 + 256 * k + 256 ≤ len
   unfolding withBlock block
   with-block = ap (take 256) (drop-at (take a t) (b ++ drop 256 (drop a t)) a start) ∙ take-at b (drop 256 (drop a t)) 256 long
 
+  -- its words
+  pub with-inside : (i : ℕ) → i < 256 → getD (withBlock t k b) (a + i) 0 ≡ getD b i 0
+  unfolding withBlock
+  with-inside i p =
+      ap (λ (n : ℕ). getD (withBlock t k b) (n + i) 0) (sym start)
+      ∙ getD-append-add (take a t) (b ++ drop 256 (drop a t)) i 0
+      ∙ List·getD-append b (drop 256 (drop a t)) 0 i (omega arith)
+
   -- the words before it and after it
   pub with-before : (i : ℕ) → i < a → getD (withBlock t k b) i 0 ≡ getD t i 0
   unfolding withBlock
@@ -65,6 +77,9 @@ module _ (t : List ℕ) (k : ℕ) (b : List ℕ) (h : 32 + 256 * k + 256 ≤ len
       ∙ getD-append-add (take a t) (b ++ drop 256 (drop a t)) (length b + r) 0
       ∙ getD-append-add b (drop 256 (drop a t)) r 0
       ∙ getD-drop 256 (drop a t) r 0 ∙ getD-drop a t (256 + r) 0 ∙ ap (λ (j : ℕ). getD t j 0) f
+
+  pub with-outside : (i : ℕ) → (i < a) ⊎ (a + 256 ≤ i) → getD (withBlock t k b) i 0 ≡ getD t i 0
+  with-outside i o = ⊎-elim (with-before i) (with-after i) o
 
   pub with-header : (i : ℕ) → i < 32 → getD (withBlock t k b) i 0 ≡ getD t i 0
   with-header i p = with-before i (omega arith)
