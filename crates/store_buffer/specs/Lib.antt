@@ -1,0 +1,4 @@
+pub mod Buffer
+pub mod System
+pub mod Leaving
+pub mod Pass
