@@ -75,10 +75,10 @@ module _ (a d : ℕ) (low : a < 2 ^ 32) (w : InWord a d) where
       ap (λ (t : Bool). t && ltb (a + j) to) (leb-same from (a + j) from a (λ k. omega (arith, w .within)) (λ k. omega arith))
       ∙ ap (λ (t : Bool). leb from a && t) (ltb-same (a + j) to a to (λ k. omega arith) (λ k. omega (arith, w .within)))
 
-  local-same : (j : ℕ) → j < d → localPort (a + j) ≡ localPort a
+  pub local-same : (j : ℕ) → j < d → localPort (a + j) ≡ localPort a
   local-same j h = range-same localPorts (localPorts + 128) j refl refl h
 
-  io-same : (j : ℕ) → j < d → ioPort (a + j) ≡ ioPort a
+  pub io-same : (j : ℕ) → j < d → ioPort (a + j) ≡ ioPort a
   io-same j h = range-same ioPorts (ioPorts + 8) j refl refl h
 
   module _ (b m : List ℕ) (select window : ℕ) where

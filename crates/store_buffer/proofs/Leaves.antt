@@ -8,21 +8,20 @@ use mathlib.Core.List.{List, [], _∷_, map}
 use native.Mathlib.Omega.{arith}
 use lib.ListN.{length, getD}
 use lib.Dec.{eqb, ltb, leb}
-use borrow.Author.Tests.{ltb-true, leb-true, eq-eqb, ne-eqb, le-leb, lt-leb}
+use borrow.Author.Tests.{le-leb, lt-leb}
 use Rattle.word.specs.Word.{if_then_else_, minus}
 use Rattle.layout.specs.Layout.{storeHead, localPorts, ioPorts}
 use Rattle.records.specs.declared.Store.{Store}
 use Rattle.records.specs.Records.{stores, storeIn}
 use Rattle.records.specs.Contents.{localPort, ioPort}
 use Rattle.records.proofs.Checking.{chain-step, chain-zero}
-use Rattle.records.proofs.Counts.{and-left, and-right}
 use Rattle.store_buffer.specs.declared.Oldest.{Oldest}
 use Rattle.store_buffer.specs.declared.Oldest.the-variants.{Empty, Leaves}
 use Rattle.store_buffer.specs.declared.Target.{Target}
 use Rattle.store_buffer.specs.declared.Target.the-variants.{LocalPort, IoPort, Narrow, Memory, Beyond}
 use Rattle.store_buffer.specs.System.{apicadr, ioapicadr}
 use Rattle.store_buffer.specs.Leaving.{oldest, wordOnly, target}
-use Rattle.store_buffer.proofs.Beneath.{local-adr, io-adr}
+use Rattle.store_buffer.proofs.Beneath.{local-range, io-range, local-adr, io-adr}
 
 distance : (x l : ℕ) → l ≤ x → x < 2 ^ 32 → minus 32 x l ≡ x - l
 distance x l p q = omega arith
@@ -37,29 +36,19 @@ module _ (b : List ℕ) where
   oldest-some d = sym (ap (λ (l : List ℕ). oldest (map (storeIn b) l)) (chain-step 32 b (getD b storeHead 0) (omega arith) d))
 
 module _ (n : ℕ) (s : Store) where
-  pub to-local : {v : ℕ} → localPort (s .address) ≡ true → s .width ≡ 4 → v ≡ minus 32 (s .address) localPorts → LocalPort v ≡ target n s
+  pub to-local : {v : ℕ} {t : Target} → localPort (s .address) ≡ true → v ≡ minus 32 (s .address) localPorts → t ≡ wordOnly s (LocalPort v) → t ≡ target n s
   unfolding target
-  to-local {v} e f g =
-      let p : localPorts ≤ s .address = leb-true localPorts (s .address) (and-left _ _ e) in
-      let q : s .address < localPorts + 128 = ltb-true (s .address) (localPorts + 128) (and-right (leb localPorts (s .address)) _ e) in
-      let r : v ≡ apicadr (s .address) = g ∙ distance (s .address) localPorts p (omega arith) ∙ sym (local-adr (s .address) p q) in
-      rw (e, eq-eqb (s .width) 4 f, ← r)
+  to-local {v} e g h =
+      let r = local-range (s .address) e in
+      let k : v ≡ apicadr (s .address) = g ∙ distance (s .address) localPorts (r .0) (omega (arith, r .1)) ∙ sym (local-adr (s .address) (r .0) (r .1)) in
+      rw (e, ← k) h
 
-  pub to-io : {v : ℕ} → localPort (s .address) ≡ false → ioPort (s .address) ≡ true → s .width ≡ 4 → v ≡ minus 32 (s .address) ioPorts → IoPort v ≡ target n s
+  pub to-io : {v : ℕ} {t : Target} → localPort (s .address) ≡ false → ioPort (s .address) ≡ true → v ≡ minus 32 (s .address) ioPorts → t ≡ wordOnly s (IoPort v) → t ≡ target n s
   unfolding target
-  to-io {v} d e f g =
-      let p : ioPorts ≤ s .address = leb-true ioPorts (s .address) (and-left _ _ e) in
-      let q : s .address < ioPorts + 8 = ltb-true (s .address) (ioPorts + 8) (and-right (leb ioPorts (s .address)) _ e) in
-      let r : v ≡ ioapicadr (s .address) = g ∙ distance (s .address) ioPorts p (omega arith) ∙ sym (io-adr (s .address) p q) in
-      rw (d, e, eq-eqb (s .width) 4 f, ← r)
-
-  pub too-narrow-local : localPort (s .address) ≡ true → s .width ≢ 4 → Narrow ≡ target n s
-  unfolding target
-  too-narrow-local e f = rw (e, ne-eqb (s .width) 4 f)
-
-  pub too-narrow-io : localPort (s .address) ≡ false → ioPort (s .address) ≡ true → s .width ≢ 4 → Narrow ≡ target n s
-  unfolding target
-  too-narrow-io d e f = rw (d, e, ne-eqb (s .width) 4 f)
+  to-io {v} d e g h =
+      let r = io-range (s .address) e in
+      let k : v ≡ ioapicadr (s .address) = g ∙ distance (s .address) ioPorts (r .0) (omega (arith, r .1)) ∙ sym (io-adr (s .address) (r .0) (r .1)) in
+      rw (d, e, ← k) h
 
   pub to-memory : localPort (s .address) ≡ false → ioPort (s .address) ≡ false → s .address + s .width ≤ n → Memory ≡ target n s
   unfolding target

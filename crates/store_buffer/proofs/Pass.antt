@@ -45,6 +45,10 @@ fresh-differs i Miss f = refl
 
 -- ---- a test of some number
 
+pub or-true : (t : Bool) → t || true ≡ true
+or-true true = refl
+or-true false = refl
+
 pub some-intro : (k : ℕ) (p : ℕ → Bool) (j : ℕ) → j < k → p j ≡ true → some k p ≡ true
 unfolding some
 some-intro zero p j h e = absurd (omega arith)
@@ -52,10 +56,6 @@ some-intro (suc k) p j h e =
     either (ℕ-discrete j k)
     (λ (q : j ≡ k). ap (λ (t : Bool). t || some k p) (ap p (sym q) ∙ e))
     (λ q. ap (λ (t : Bool). p k || t) (some-intro k p j (omega arith) e) ∙ or-true (p k))
-  where
-    or-true : (t : Bool) → t || true ≡ true
-    or-true true = refl
-    or-true false = refl
 
 pub some-none : (k : ℕ) (p : ℕ → Bool) → ((j : ℕ) → j < k → p j ≡ false) → some k p ≡ false
 unfolding some

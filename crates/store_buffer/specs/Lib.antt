@@ -2,3 +2,4 @@ pub mod Buffer
 pub mod System
 pub mod Leaving
 pub mod Pass
+pub mod Figures

@@ -17,6 +17,8 @@ use Rattle.store_buffer.specs.declared.Loaded.{Loaded}
 use Rattle.store_buffer.specs.declared.Loaded.the-variants.{Value, Hazard}
 use Rattle.store_buffer.specs.Buffer.{sbhit, sbv, maxsbhit, sbhazard}
 
+-- definitions 70 to 73 are localPorts, localPort, ioPorts and ioPort
+
 -- the port words that a core sees: the 32 of its local APIC, and the I/O APIC's IOREGSEL and IOWIN
 pub record Ports : Type 0 where
   pub apic : List ℕ
@@ -25,6 +27,10 @@ pub record Ports : Type 0 where
 
 abbrev pub portsOf : List ℕ → ℕ → ℕ → Ports
 portsOf b select window = record { apic = take 32 (drop ports b); select = select; window = window }
+
+-- definition 75: the bytes of ports
+abbrev pub isPort : ℕ → Bool
+isPort x = localPort x || ioPort x
 
 -- definition 76: the port address of a byte at x
 abbrev pub apicadr : ℕ → ℕ

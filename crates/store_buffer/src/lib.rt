@@ -167,6 +167,15 @@ fn forwarded(b: &[u32], number: u32, a: u32, d: u32) -> u32
     part(b[i + 2], k, d)
 }
 
+// Whether an address is that of a port.
+pub fn is_port(a: u32) -> bool
+    ensures { λ r. ⌜ r ≡ y.isPort a ⌝ }
+{
+    let at = a as usize;
+    ((LOCAL_PORTS <= at) & (at < LOCAL_PORTS + LOCAL_PORT_BYTES))
+        | ((IO_PORTS <= at) & (at < IO_PORTS + IO_PORT_BYTES))
+}
+
 // The d bytes of memory at an address.
 pub fn read_memory(memory: &[u8], a: u32, d: u32) -> Read
     requires { ⌜ y.aligned a d ≡ true ⌝ }
@@ -241,6 +250,13 @@ pub fn oldest_store(b: &[u32]) -> Oldest
     })
 }
 
+// Ports take words only.
+fn word_only(s: Store, t: Target) -> Target
+    ensures { λ r. ⌜ r ≡ z.wordOnly s t ⌝ }
+{
+    if s.width == 4 { t } else { Target::Narrow }
+}
+
 // Where a store goes, with memory of so many bytes.
 pub fn destination(s: Store, bytes: usize) -> Target
     ensures { λ r. ⌜ r ≡ z.target bytes s ⌝ }
@@ -248,16 +264,10 @@ pub fn destination(s: Store, bytes: usize) -> Target
     let a = s.address;
     let at = a as usize;
     if (LOCAL_PORTS <= at) & (at < LOCAL_PORTS + LOCAL_PORT_BYTES) {
-        if s.width == 4 {
-            return Target::LocalPort(word::sub(a, 0xffff_f000));
-        }
-        return Target::Narrow;
+        return word_only(s, Target::LocalPort(word::sub(a, 0xffff_f000)));
     }
     if (IO_PORTS <= at) & (at < IO_PORTS + IO_PORT_BYTES) {
-        if s.width == 4 {
-            return Target::IoPort(word::sub(a, 0xffff_e000));
-        }
-        return Target::Narrow;
+        return word_only(s, Target::IoPort(word::sub(a, 0xffff_e000)));
     }
     if at + s.width as usize <= bytes {
         return Target::Memory;
