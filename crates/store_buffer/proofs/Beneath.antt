@@ -1,15 +1,15 @@
 -- The bytes of an access beneath the store buffer: all of one port word, or all of memory.
 -- Assumes nothing.
-use mathlib.Core.Path.{_≡_, refl, sym, ap, _∙_}
-use Prim.Native.Nat.{ℕ, zero, suc, _+_, _-_, _*_, _/_, _%_, _^_, _<_, _≤_}
+use mathlib.Core.Path.{_≡_, refl, ap, _∙_}
+use Prim.Native.Nat.{ℕ, _+_, _-_, _*_, _/_, _%_, _^_, _<_, _≤_}
 use mathlib.Core.Bool.{Bool, true, false, _&&_}
 use mathlib.Core.List.{List, []}
 use native.Mathlib.Omega.{arith}
 use native.Mathlib.Nat.{mod-eq-of-lt}
-use lib.ListN.{length, getD, take, drop}
+use lib.ListN.{getD, drop}
 use lib.Seq.{getD-take, getD-drop}
 use lib.Dec.{ltb, leb}
-use borrow.Author.Tests.{ltb-true, leb-true, lt-ltb, le-ltb}
+use borrow.Author.Tests.{ltb-true, leb-true}
 use Rattle.word.specs.Word.{if_then_else_, minus}
 use Rattle.word.specs.Bytes.{byte}
 use Rattle.word.proofs.Laws.{ltb-same, leb-same}
@@ -17,7 +17,7 @@ use Rattle.layout.specs.Layout.{ports, localPorts, ioPorts}
 use Rattle.records.specs.Contents.{localPort, ioPort}
 use Rattle.records.proofs.Counts.{and-left, and-right}
 use Rattle.store_buffer.specs.declared.Read.{Read}
-use Rattle.store_buffer.specs.declared.Read.the-variants.{There, Nowhere}
+use Rattle.store_buffer.specs.declared.Read.the-variants.{There}
 use Rattle.store_buffer.specs.Buffer.{sbhit}
 use Rattle.store_buffer.specs.System.{Ports, portsOf, apicadr, ioapicadr, apicByte, ioapicByte, memoryByte, beneath, msOf, ms, reads}
 use Rattle.store_buffer.proofs.Access.{InWord, reads-same, reads-part}

@@ -6,7 +6,7 @@ use Rattle.store_buffer.specs.declared.Hit.the-variants.{At}
 use Rattle.store_buffer.specs.declared.Loaded.the-variants.{Value}
 use Rattle.store_buffer.specs.Buffer.{sbehit, sbhit, newestFrom, sbv, some, sbhazard}
 use Rattle.store_buffer.specs.System.{reads, msOf, loaded}
-use Rattle.store_buffer.specs.Figures.{pending, pendingLoad, valueOf}
+use Rattle.store_buffer.specs.Figures.{pending, pendingLoad}
 
 -- byte 101 reads AA, served by the second store; byte 100 reads 44, by the first
 pub byte-101 : pendingLoad 0x101 1 ≡ Value 0xaa (At 1)

@@ -1,24 +1,22 @@
 -- The oldest store, and where it goes.
 -- Assumes nothing.
-use mathlib.Core.Path.{_≡_, refl, sym, ap, _∙_}
+use mathlib.Core.Path.{_≡_, sym, ap, _∙_}
 use mathlib.Core.Logic.{_≢_}
-use Prim.Native.Nat.{ℕ, zero, suc, _+_, _-_, _%_, _^_, _<_, _≤_}
-use mathlib.Core.Bool.{Bool, true, false, _&&_}
-use mathlib.Core.List.{List, [], _∷_, map}
+use Prim.Native.Nat.{ℕ, _+_, _-_, _^_, _<_, _≤_}
+use mathlib.Core.Bool.{true, false}
+use mathlib.Core.List.{List, map}
 use native.Mathlib.Omega.{arith}
-use lib.ListN.{length, getD}
-use lib.Dec.{eqb, ltb, leb}
+use lib.ListN.{getD}
 use borrow.Author.Tests.{le-leb, lt-leb}
-use Rattle.word.specs.Word.{if_then_else_, minus}
+use Rattle.word.specs.Word.{minus}
 use Rattle.layout.specs.Layout.{storeHead, localPorts, ioPorts}
 use Rattle.records.specs.declared.Store.{Store}
 use Rattle.records.specs.Records.{stores, storeIn}
 use Rattle.records.specs.Contents.{localPort, ioPort}
 use Rattle.records.proofs.Checking.{chain-step, chain-zero}
-use Rattle.store_buffer.specs.declared.Oldest.{Oldest}
 use Rattle.store_buffer.specs.declared.Oldest.the-variants.{Empty, Leaves}
 use Rattle.store_buffer.specs.declared.Target.{Target}
-use Rattle.store_buffer.specs.declared.Target.the-variants.{LocalPort, IoPort, Narrow, Memory, Beyond}
+use Rattle.store_buffer.specs.declared.Target.the-variants.{LocalPort, IoPort, Memory, Beyond}
 use Rattle.store_buffer.specs.System.{apicadr, ioapicadr}
 use Rattle.store_buffer.specs.Leaving.{oldest, wordOnly, target}
 use Rattle.store_buffer.proofs.Beneath.{local-range, io-range, local-adr, io-adr}

@@ -1,17 +1,15 @@
 -- One pass over the pending stores finds what the definitions say of each byte.
 -- Assumes nothing.
 use mathlib.Core.Path.{_≡_, refl, sym, ap, _∙_}
-use mathlib.Core.Logic.{_≢_, _⊎_, inl, inr, ⊎-elim}
-use Prim.Native.Nat.{ℕ, zero, suc, _+_, _-_, _%_, _^_, _<_, _≤_}
+use mathlib.Core.Logic.{_≢_, ⊎-elim}
+use Prim.Native.Nat.{ℕ, zero, suc, _+_, _^_, _<_, _≤_}
 use mathlib.Core.Bool.{Bool, true, false, _||_, not, false≢true}
 use mathlib.Core.List.{List, [], _∷_, map}
 use native.Mathlib.Omega.{arith}
 use native.Mathlib.Decide.{ℕ-discrete}
-use native.Mathlib.Numerals.{add-one}
 use lib.ListN.{length, getD}
-use lib.Dec.{eqb, ltb, leb}
-use borrow.Author.Tests.{lt-ltb, le-ltb, eq-eqb, ne-eqb, eqb-true}
-use Rattle.word.specs.Word.{if_then_else_, plus, minus}
+use borrow.Author.Tests.{eq-eqb, ne-eqb}
+use Rattle.word.specs.Word.{if_then_else_, plus}
 use Rattle.word.proofs.Laws.{side}
 use Rattle.records.specs.declared.Store.{Store}
 use Rattle.layout.specs.Layout.{recordAt, storeHead}
@@ -23,7 +21,7 @@ use Rattle.store_buffer.specs.declared.Hit.the-variants.{At, Miss}
 use Rattle.store_buffer.specs.declared.Found.{Found}
 use Rattle.store_buffer.specs.declared.Found.the-variants.{Nothing, One, Mixed}
 use Rattle.store_buffer.specs.Buffer.{sbehit, newestFrom, maxsbhit, sameHit, some, sbhazard}
-use Rattle.store_buffer.specs.Pass.{Cover, whole, part, apart, cover, onCover, found, foundBy}
+use Rattle.store_buffer.specs.Pass.{cover, onCover, found}
 use Rattle.store_buffer.proofs.Cover.{cover-cases}
 
 -- ---- hits

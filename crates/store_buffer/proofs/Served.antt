@@ -2,18 +2,17 @@
 -- Assumes nothing.
 use mathlib.Core.Path.{_≡_, refl, sym, ap, _∙_}
 use Prim.Native.Nat.{ℕ, zero, suc, _+_, _-_, _*_, _/_, _%_, _^_, _<_, _≤_}
-use mathlib.Core.Bool.{Bool, true, false, _&&_, false≢true}
+use mathlib.Core.Bool.{Bool, true, false, false≢true}
 use mathlib.Core.List.{List, [], _∷_}
 use native.Mathlib.Omega.{arith}
 use lib.ListN.{length, getD}
-use lib.Dec.{eqb, ltb}
+use lib.Dec.{eqb}
 use borrow.Author.Tests.{ltb-true}
 use Rattle.word.specs.Word.{if_then_else_, plus, minus}
 use Rattle.word.specs.Bytes.{byte}
-use Rattle.layout.specs.Layout.{storeHead}
 use Rattle.records.specs.declared.Store.{Store}
 use Rattle.records.specs.Records.{all, stores, storeNumbers, storeIn, noStore, linked}
-use Rattle.records.specs.Contents.{storeSound, allThere, soundRecords}
+use Rattle.records.specs.Contents.{storeSound, soundRecords}
 use Rattle.records.proofs.Counts.{and-left, and-right, and-both}
 use Rattle.records.proofs.Along.{stores-small}
 use Rattle.records.proofs.Fold.{number-low, at-map, stores-length}
@@ -21,17 +20,14 @@ use Rattle.records.proofs.Contents.{parts-of}
 use Rattle.store_buffer.specs.declared.Hit.{Hit}
 use Rattle.store_buffer.specs.declared.Hit.the-variants.{At, Miss}
 use Rattle.store_buffer.specs.declared.Read.{Read}
-use Rattle.store_buffer.specs.declared.Read.the-variants.{There, Nowhere}
-use Rattle.store_buffer.specs.declared.Found.{Found}
+use Rattle.store_buffer.specs.declared.Read.the-variants.{There}
 use Rattle.store_buffer.specs.declared.Found.the-variants.{Nothing, One, Mixed}
-use Rattle.store_buffer.specs.declared.Loaded.{Loaded}
 use Rattle.store_buffer.specs.declared.Loaded.the-variants.{Value, Hazard}
-use Rattle.store_buffer.specs.Buffer.{sbehit, sbhit, sbv, forwardedBy, maxsbhit, some, sbhazard}
-use Rattle.store_buffer.specs.System.{Ports, memoryByte, beneath, msOf, ms, reads, aligned, sized, onRead, loaded}
+use Rattle.store_buffer.specs.Buffer.{sbehit, sbhit, sbv, maxsbhit, some, sbhazard}
+use Rattle.store_buffer.specs.System.{Ports, msOf, ms, reads, aligned, sized, onRead, loaded}
 use Rattle.store_buffer.specs.Pass.{found, foundBy}
 use Rattle.store_buffer.proofs.Access.{InWord, aligned-word, reads-same, reads-part}
-use Rattle.store_buffer.proofs.Hits.{at-miss, Newest, newest-law, none-hits, one-hits, no-hazard}
-use Rattle.store_buffer.proofs.Beneath.{ms-empty}
+use Rattle.store_buffer.proofs.Hits.{Newest, newest-law, none-hits, one-hits, no-hazard}
 
 -- ---- one byte
 

@@ -9,10 +9,10 @@ use layout::RECORDS;
 use layout::STORE_HEAD;
 use records::Store;
 ghost use mathlib.Core.Path.{_≡_};
-ghost use mathlib.Core.Bool.{Bool, true, false};
-ghost use mathlib.Core.List.{List, []};
-ghost use Prim.Native.Nat.{ℕ, _+_, _*_, _/_, _%_, _^_, _<_, _≤_};
-ghost use lib.ListN.{length, getD};
+ghost use mathlib.Core.Bool.{true};
+ghost use mathlib.Core.List.{[]};
+ghost use Prim.Native.Nat.{_/_, _%_, _^_, _<_};
+ghost use lib.ListN.{length};
 ghost use Rattle.word.specs.Word.{minus};
 ghost use Rattle.records.specs.Records.{stores, storeIn, linked};
 ghost use Rattle.records.specs.Contents.{soundRecords};
@@ -264,10 +264,10 @@ pub fn destination(s: Store, bytes: usize) -> Target
     let a = s.address;
     let at = a as usize;
     if (LOCAL_PORTS <= at) & (at < LOCAL_PORTS + LOCAL_PORT_BYTES) {
-        return word_only(s, Target::LocalPort(word::sub(a, 0xffff_f000)));
+        return word_only(s, Target::LocalPort(word::sub(a, LOCAL_PORTS as u32)));
     }
     if (IO_PORTS <= at) & (at < IO_PORTS + IO_PORT_BYTES) {
-        return word_only(s, Target::IoPort(word::sub(a, 0xffff_e000)));
+        return word_only(s, Target::IoPort(word::sub(a, IO_PORTS as u32)));
     }
     if at + s.width as usize <= bytes {
         return Target::Memory;

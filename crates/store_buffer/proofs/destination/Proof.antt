@@ -11,6 +11,9 @@ cast-at c = search needs
 add-if1 : tie.Need-add-if1
 add-if1 c = search needs
 
+cast-sub : tie.Need-cast-sub
+cast-sub c = search needs
+
 sub-requires : tie.Need-sub-requires
 sub-requires c κs = search needs
 
@@ -22,6 +25,9 @@ returns c = to-local _ _ (c .before .before .if1 .taken) (c .before .sub .ensure
 
 add-if2 : tie.Need-add-if2
 add-if2 c = search needs
+
+cast-sub-2 : tie.Need-cast-sub-2
+cast-sub-2 c = search needs
 
 sub-requires-2 : tie.Need-sub-requires-2
 sub-requires-2 c κs = search needs
@@ -50,10 +56,12 @@ destination-spec =
     (tie.spec
     cast-at
     add-if1
+    cast-sub
     sub-requires
     word-only-requires
     returns
     add-if2
+    cast-sub-2
     sub-requires-2
     word-only-requires-2
     returns-2

@@ -1,11 +1,9 @@
 -- `store_buffer::find` meets its contract. The invariant: the records to come decide. The measure: how many they are.
 -- Assumes nothing.
-use mathlib.Core.Path.{_≡_}
-use Prim.Native.Nat.{ℕ, _^_, _<_}
+use Prim.Native.Nat.{_<_}
 use native.Mathlib.Omega.{arith}
 use borrow.Author.Needs.{needs}
-use lib.ListN.{length, getD}
-use denote.Ref.{now}
+use lib.ListN.{length}
 use Rattle.records.specs.Records.{chain}
 use Rattle.store_buffer.proofs.Pass.{Passing, passing-start, passing-low, passing-place, passing-less, passing-next, passing-end}
 use Rattle.store_buffer.proofs.find.Statement.{statement}

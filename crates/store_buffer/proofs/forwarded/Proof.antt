@@ -1,8 +1,7 @@
 -- `store_buffer::forwarded` meets its contract.
 -- Assumes nothing.
-use mathlib.Core.Path.{_≡_, refl, sym, ap, _∙_}
-use Prim.Native.Nat.{ℕ, _+_, _*_, _/_, _%_, _^_, _<_, _≤_}
-use native.Mathlib.Omega.{arith}
+use mathlib.Core.Path.{ap, _∙_}
+use Prim.Native.Nat.{ℕ, _/_, _%_, _^_}
 use denote.Ref.{now}
 use Rattle.records.specs.Records.{storeIn}
 use borrow.Author.Needs.{needs}

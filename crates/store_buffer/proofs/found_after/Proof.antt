@@ -1,9 +1,7 @@
 -- `store_buffer::found_after` meets its contract.
 -- Assumes nothing.
-use mathlib.Core.Path.{_≡_, sym}
 use borrow.Author.Needs.{needs}
 use borrow.Author.Tests.{lt-ltb, le-ltb, le-leb, lt-leb, eq-eqb, ne-eqb}
-use native.Mathlib.Omega.{arith}
 use Rattle.store_buffer.specs.Pass.{cover}
 use Rattle.store_buffer.proofs.found_after.Statement.{statement}
 use Rattle.store_buffer.proofs.found_after.Tie as tie
