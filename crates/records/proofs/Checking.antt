@@ -10,7 +10,8 @@ use lib.ListN.{length, getD, set, length-set}
 use lib.Seq.{getD-set-same, getD-set-other}
 use borrow.Author.Tests.{ltb-true, lt-ltb, le-ltb, eq-eqb, ne-eqb}
 use Rattle.layout.specs.Layout.{recordAt}
-use Rattle.records.specs.Records.{chain, chainAt, count, bit, each, all, small}
+use Rattle.word.specs.Word.{flag}
+use Rattle.records.specs.Records.{chain, chainAt, count, each, all, small}
 use Rattle.records.specs.Tallied.{Tallied}
 use Rattle.records.proofs.Counts.{either, and-left}
 use Rattle.records.proofs.Three.{count-cons}
@@ -95,8 +96,8 @@ module _ (b : List ℕ) (h : ℕ) (s : List ℕ) where
           check = check-next small b h n k (C .check) p d (lt-ltb n 32 l);
           long = length-set t n (getD t n 0 + 1) ∙ C .long;
           counts = λ m q. either (ℕ-discrete m n)
-              (λ e. omega (arith, C .counts m q, ap (count m) (chain-step k b n p d), count-cons m n (chain (k - 1) b (getD b (recordAt n) 0)), ap bit (eq-eqb m n e), same m e))
-              (λ e. omega (arith, C .counts m q, ap (count m) (chain-step k b n p d), count-cons m n (chain (k - 1) b (getD b (recordAt n) 0)), ap bit (ne-eqb m n e), getD-set-other t n m (getD t n 0 + 1) 0 e));
+              (λ e. omega (arith, C .counts m q, ap (count m) (chain-step k b n p d), count-cons m n (chain (k - 1) b (getD b (recordAt n) 0)), ap flag (eq-eqb m n e), same m e))
+              (λ e. omega (arith, C .counts m q, ap (count m) (chain-step k b n p d), count-cons m n (chain (k - 1) b (getD b (recordAt n) 0)), ap flag (ne-eqb m n e), getD-set-other t n m (getD t n 0 + 1) 0 e));
           bound = λ m. either (ℕ-discrete m n)
               (λ e. omega (arith, C .bound m, same m e))
               (λ e. omega (arith, C .bound m, getD-set-other t n m (getD t n 0 + 1) 0 e));

@@ -9,7 +9,8 @@ use native.Mathlib.Omega.{arith}
 use lib.ListN.{length}
 use lib.Dec.{eqb}
 use borrow.Author.Tests.{eqb-true, eqb-false, eq-eqb}
-use Rattle.records.specs.Records.{bit, count, each, all}
+use Rattle.word.specs.Word.{flag}
+use Rattle.records.specs.Records.{count, each, all}
 
 pub count-append : (n : ℕ) (s t : List ℕ) → count n (s ++ t) ≡ count n s + count n t
 unfolding count
@@ -17,10 +18,10 @@ count-append n [] t = omega arith
 count-append n (x ∷ s) t = omega (arith, count-append n s t)
 
 -- the two cases of an element
-pub bit-cases : (n x : ℕ) → ((n ≡ x) × (bit (eqb n x) ≡ 1)) ⊎ ((n ≡ x → ⊥) × (bit (eqb n x) ≡ 0))
+pub bit-cases : (n x : ℕ) → ((n ≡ x) × (flag (eqb n x) ≡ 1)) ⊎ ((n ≡ x → ⊥) × (flag (eqb n x) ≡ 0))
 bit-cases n x = go (eqb n x) refl
   where
-    go : (t : Bool) → eqb n x ≡ t → ((n ≡ x) × (bit t ≡ 1)) ⊎ ((n ≡ x → ⊥) × (bit t ≡ 0))
+    go : (t : Bool) → eqb n x ≡ t → ((n ≡ x) × (flag t ≡ 1)) ⊎ ((n ≡ x → ⊥) × (flag t ≡ 0))
     go true e = inl (eqb-true n x e, refl)
     go false e = inr (eqb-false n x e, refl)
 

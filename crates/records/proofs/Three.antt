@@ -8,7 +8,8 @@ use native.Mathlib.Omega.{arith}
 use lib.ListN.{length, getD}
 use lib.Dec.{eqb}
 use Rattle.layout.specs.Layout.{recordAt, freeHead}
-use Rattle.records.specs.Records.{count, bit, endOf, release, insert}
+use Rattle.word.specs.Word.{flag}
+use Rattle.records.specs.Records.{count, endOf, release, insert}
 use Rattle.records.proofs.Counts.{count-append, count-here}
 use Rattle.records.proofs.Links.{Links, links-frame, links-drop, links-splice, end-member}
 use Rattle.records.proofs.Words.{Place, Moved, at-words}
@@ -96,7 +97,7 @@ module _ (b c : List ℕ) (h r : ℕ) (s : List ℕ) (lo : h < freeHead) {next l
   pub kept-held : (n : ℕ) → n ≢ r → held c n ≡ held b n
   kept-held n d = λ i. (kept-word n 1 d (omega arith) (omega arith) i, kept-word n 2 d (omega arith) (omega arith) i, kept-word n 3 d (omega arith) (omega arith) i)
 
-pub count-cons : (n x : ℕ) (l : List ℕ) → count n (x ∷ l) ≡ bit (eqb n x) + count n l
+pub count-cons : (n x : ℕ) (l : List ℕ) → count n (x ∷ l) ≡ flag (eqb n x) + count n l
 unfolding count
 count-cons n x l = refl
 
@@ -131,7 +132,7 @@ module _ (b : List ℕ) (h g r : ℕ) (s t os fs : List ℕ) (T : Three b h (s +
   pub r-out : (count r s ≡ 0) × (count r t ≡ 0) × (count r os ≡ 0) × (count r fs ≡ 0)
   r-out = omega (arith, at-most T r, count-append r s (r ∷ t), count-here r t)
 
-  sums : (n : ℕ) → count n (s ++ (r ∷ t)) ≡ count n s + (bit (eqb n r) + count n t)
+  sums : (n : ℕ) → count n (s ++ (r ∷ t)) ≡ count n s + (flag (eqb n r) + count n t)
   sums n = omega (arith, count-append n s (r ∷ t), count-cons n r t)
 
   pub released : Moved b (release b (endOf h s)) (endOf h s) r (getD b (recordAt r) 0) (getD b freeHead 0) 0 0 0 r

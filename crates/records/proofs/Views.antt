@@ -11,9 +11,10 @@ use lib.ListN.{length, length-append}
 use lib.Dec.{eqb}
 use borrow.Author.Tests.{ne-eqb}
 use Rattle.layout.specs.Layout.{storeHead, walkHead}
+use Rattle.word.specs.Word.{flag}
 use Rattle.records.specs.declared.Store.{Store}
 use Rattle.records.specs.declared.Walk.{Walk}
-use Rattle.records.specs.Records.{count, bit, blank, storeIn, walkIn, stores, walks, endOf, release, insert}
+use Rattle.records.specs.Records.{count, blank, storeIn, walkIn, stores, walks, endOf, release, insert}
 use Rattle.records.proofs.Counts.{either, count-append, count-cases, count-head, count-more}
 use Rattle.records.proofs.Three.{Held, held, Kept, Three, three-swap, differ, count-cons, r-out, released, release-three, release-kept, i-out, inserted, insert-three, insert-kept}
 use Rattle.records.proofs.Good.{Good, good-chains}
@@ -156,7 +157,7 @@ module _ (b : List ℕ) (r : ℕ) (s t os fs : List ℕ) (x y : ℕ) (G : Good b
         free-blank = rule-kept kept-iw blankOf fs (out-iw .3) (λ n q. G .free-blank n (count-more n r fs q));
         walk-blank = λ n q. either (ℕ-discrete n r)
             (λ e. rw e (ap lastOf new-walk))
-            (λ d. ap lastOf (kept-iw .other n d) ∙ G .walk-blank n (omega (arith, q, count-append n s t, count-append n s (r ∷ t), count-cons n r t, ap bit (ne-eqb n r d))));
+            (λ d. ap lastOf (kept-iw .other n d) ∙ G .walk-blank n (omega (arith, q, count-append n s t, count-append n s (r ∷ t), count-cons n r t, ap flag (ne-eqb n r d))));
         zero-link = kept-iw .zero-link ∙ G .zero-link;
         zero-blank = zero-kept kept-iw G;
       }

@@ -9,7 +9,8 @@ use lib.ListN.{length, getD, replicate, getD-replicate, List·getD-eq-default}
 use lib.Dec.{eqb}
 use borrow.Author.Tests.{lt-leb, le-leb}
 use Rattle.layout.specs.Layout.{recordAt, storeHead, walkHead, freeHead}
-use Rattle.records.specs.Records.{chain, chainAt, count, bit, each, all, numbers, onceEach, noOther, fewStores, fewWalks, freeBlank, walksBlank, firstBlank, small, linked}
+use Rattle.word.specs.Word.{flag}
+use Rattle.records.specs.Records.{chain, chainAt, count, each, all, numbers, onceEach, noOther, fewStores, fewWalks, freeBlank, walksBlank, firstBlank, small, linked}
 use Rattle.records.proofs.Counts.{either, and-left, and-right, and-both, all-elim, all-intro}
 use Rattle.records.proofs.Good.{parts, three-append}
 use Rattle.records.specs.Tallied.{Tallied}
@@ -72,7 +73,7 @@ unfolding count
 count-length n [] = omega arith
 count-length n (x ∷ l) = omega (arith, count-length n l, bit-le (eqb n x))
   where
-    bit-le : (t : Bool) → bit t ≤ 1
+    bit-le : (t : Bool) → flag t ≤ 1
     bit-le true = omega arith
     bit-le false = omega arith
 

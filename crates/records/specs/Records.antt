@@ -5,6 +5,7 @@ use mathlib.Core.Bool.{Bool, true, false, _&&_, _||_, not}
 use mathlib.Core.List.{List, [], _∷_, _++_, map}
 use lib.ListN.{length, getD, set}
 use lib.Dec.{eqb, ltb, leb}
+use Rattle.word.specs.Word.{flag}
 use Rattle.layout.specs.Layout.{recordAt, storeHead, walkHead, freeHead}
 use Rattle.records.specs.declared.Store.{Store}
 use Rattle.records.specs.declared.Walk.{Walk}
@@ -69,13 +70,9 @@ all p [] = true
 all p (x ∷ l) = p x && all p l
 
 -- how often n stands in a list
-abbrev pub bit : Bool → ℕ
-bit true = 1
-bit false = 0
-
 unfoldable pub count : ℕ → List ℕ → ℕ
 count n [] = 0
-count n (x ∷ l) = bit (eqb n x) + count n l
+count n (x ∷ l) = flag (eqb n x) + count n l
 
 -- two walks are the same pair of words
 abbrev pub same : Walk → Walk → Bool
