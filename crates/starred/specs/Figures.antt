@@ -12,6 +12,9 @@ use Rattle.units.specs.Alu.{alures, ovf, alucon}
 use Rattle.units.specs.Multiplication.{mures}
 use Rattle.units.specs.Branch.{bcres}
 use Rattle.tlb.specs.Walks.{walkOf}
+use Rattle.store_buffer.specs.Buffer.{sbehit, sbhit, newestFrom, sbv, some, sbhazard}
+use Rattle.store_buffer.specs.System.{msOf, reads, loaded}
+use Rattle.store_buffer.specs.Figures.{pending, pendingLoad, valueOf}
 use Rattle.apic.specs.Vectors.{withBit, withVector, least}
 use Rattle.apic.specs.LocalApic.{ended, written}
 use Rattle.apic.specs.Figures.{isrAfterEoi}
@@ -69,6 +72,12 @@ figures =
     figure (deltaInstr (core 0x0ffffffc 0 0) (wordOf 0b000010 0 0 1) 0 .pc) 0x10000004 ∷
     -- beq taken, immediate FFFF, at 100 goes to FC
     figure (deltaInstr (core 0x100 0 0) (wordOf 0b000100 0 0 0xffff) 0 .pc) 0xfc ∷
+    -- word 11223344 stored at 100, then byte AA at 101: byte 101 reads AA, byte 100 reads 44
+    figure (valueOf (pendingLoad 0x101 1)) 0xaa ∷
+    figure (valueOf (pendingLoad 0x100 1)) 0x44 ∷
+    -- half at 100 is a hazard, word at 104 isn't
+    figure (flag (sbhazard pending 0x100 2)) 1 ∷
+    figure (flag (sbhazard pending 0x104 4)) 0 ∷
     -- va 12345, asid 3, level 1, rights 5: first word 123450CD
     figure (walkOf 0x12345 3 1 5 0 .first) 0x123450cd ∷
     -- ISR holds vectors 5 and 9: an EOI clears 5
@@ -76,5 +85,5 @@ figures =
     []
 
 pub figures-hold : map (λ (f : Figure). f .found) figures ≡ map (λ (f : Figure). f .printed) figures
-unfolding deltaInstr decoded rowOf alures ovf alucon mures bcres signed sxt gprw rdes cad gprdin itype rtype compi compr alu mulacc b jump su load cas jal jalr movg2s movs2g mfhi mflo mthi mtlo mul walkOf written ended least withVector withBit
+unfolding deltaInstr decoded rowOf alures ovf alucon mures bcres signed sxt gprw rdes cad gprdin itype rtype compi compr alu mulacc b jump su load cas jal jalr movg2s movs2g mfhi mflo mthi mtlo mul sbehit sbhit newestFrom sbv some sbhazard msOf reads loaded walkOf written ended least withVector withBit
 figures-hold = refl

@@ -5,5 +5,4 @@ pub mod Hits
 pub mod Beneath
 pub mod Served
 pub mod Leaves
-pub mod Figures
 pub mod Laws
