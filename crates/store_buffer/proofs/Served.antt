@@ -42,7 +42,7 @@ ms-miss sb p m x e = rw (none-hits sb x e)
 
 -- ---- a sound store lies in one word
 
-sound-word : (n : ℕ) (s : Store) → storeSound n s ≡ true → InWord (s .address) (s .width)
+pub sound-word : (n : ℕ) (s : Store) → storeSound n s ≡ true → InWord (s .address) (s .width)
 unfolding storeSound aligned
 sound-word n s e =
     aligned-word (s .address) (s .width)
