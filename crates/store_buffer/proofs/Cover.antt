@@ -27,9 +27,6 @@ module _ (a s : ℕ) (f : a < 2 ^ 32) (g : s < 2 ^ 32) where
   pub distance-there : minus 32 (plus 32 a (minus 32 s a)) s ≡ 0
   distance-there = omega arith
 
-  pub distance-zero : minus 32 s a ≡ 0 → minus 32 a s ≡ 0
-  distance-zero h = omega arith
-
 module _ (s : Store) (a d : ℕ) (f : a < 2 ^ 32) (g : s .address < 2 ^ 32) (w : s .width < 2 ^ 32) where
   abbrev δ : ℕ
   δ = minus 32 a (s .address)

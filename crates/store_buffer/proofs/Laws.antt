@@ -17,20 +17,12 @@ use Rattle.layout.specs.Layout.{ports}
 use Rattle.records.specs.declared.Store.{Store}
 use Rattle.records.specs.Records.{stores}
 use Rattle.records.specs.Contents.{localPort, ioPort, there, allThere}
-use Rattle.store_buffer.specs.declared.Hit.{Hit}
-use Rattle.store_buffer.specs.declared.Hit.the-variants.{At}
-use Rattle.store_buffer.specs.declared.Read.{Read}
-use Rattle.store_buffer.specs.declared.Read.the-variants.{There, Nowhere}
-use Rattle.store_buffer.specs.declared.Loaded.{Loaded}
-use Rattle.store_buffer.specs.declared.Loaded.the-variants.{Value}
 use Rattle.store_buffer.specs.declared.Target.{Target}
 use Rattle.store_buffer.specs.declared.Target.the-variants.{LocalPort, IoPort, Narrow, Memory, Beyond}
-use Rattle.store_buffer.specs.Buffer.{maxsbhit, sbhazard}
-use Rattle.store_buffer.specs.System.{Ports, portsOf, memoryByte, msOf, ms, reads, onRead, loaded, apicadr, ioapicadr}
+use Rattle.store_buffer.specs.System.{Ports, portsOf, memoryByte, msOf, ms, loaded, apicadr, ioapicadr}
 use Rattle.store_buffer.specs.Leaving.{target}
 use Rattle.store_buffer.proofs.Access.{InWord, reads-same}
 use Rattle.store_buffer.proofs.Pass.{or-true}
-use Rattle.store_buffer.proofs.Hits.{newest-law}
 use Rattle.store_buffer.proofs.Beneath.{local-same, io-same}
 
 -- of memory, a load sees only the bytes that it asks
@@ -54,16 +46,6 @@ ports-same b c select window lb lc e =
 pub load-block : (b c m : List ℕ) (select window a d : ℕ) → stores b ≡ stores c → portsOf b select window ≡ portsOf c select window
     → loaded (stores b) (portsOf b select window) m a d ≡ loaded (stores c) (portsOf c select window) m a d
 load-block b c m select window a d e f = ap (λ (sb : List Store). loaded sb (portsOf b select window) m a d) e ∙ ap (λ (p : Ports). loaded (stores c) p m a d) f
-
--- the place that a load names is that of a pending store
-pub load-place : (sb : List Store) (p : Ports) (m : List ℕ) (a d v i : ℕ) → loaded sb p m a d ≡ Value v (At i) → i < length sb
-unfolding loaded
-load-place sb p m a d v i e = newest-law sb a i (go (sbhazard sb a d) (maxsbhit sb a) (reads d (ms sb p m) a) e) .below
-  where
-    go : (t : Bool) (h : Hit) (r : Read) → (if t then Loaded.Hazard else onRead h r) ≡ Value v (At i) → h ≡ At i
-    go true h r f = let z : _≡_ {A = ℕ} 0 1 = cc in absurd (omega arith)
-    go false h (There u) f = cc
-    go false h Nowhere f = let z : _≡_ {A = ℕ} 0 1 = cc in absurd (omega arith)
 
 -- ---- where an aligned store goes
 
