@@ -138,7 +138,7 @@ pub fn simm(i: u32) -> u32 {
     i as u16 as i16 as i32 as u32
 }
 
-/// Definitions 24 and 25 by reading 2: the row whose printed codes all match;
+/// Definitions 24 and 25: the row whose printed codes all match;
 /// None is an illegal word.
 #[rustfmt::skip]
 pub fn decode(i: u32) -> Option<Op> {
@@ -204,7 +204,7 @@ pub fn privileged(op: Op) -> bool {
     matches!(op, Eret | Movg2s | Movs2g | Flush | Invlpg)
 }
 
-/// Definition 26, through the row that matched (reading 2).
+/// Definition 26, through the row that matched.
 pub fn alu(op: Op) -> bool {
     compi(op) || compr(op)
 }

@@ -1,8 +1,8 @@
 //! A plain simulator of the four-core MIPS-86 controller.
 //!
 //! Written from the scope paper ("01"), the MIPS-86 report of 4 November 2013
-//! ("000") and the list of settled readings ("READINGS"). Definition numbers
-//! in comments are those of 000, reading numbers those of READINGS.
+//! ("000") and the settled readings (docs/DECISIONS.md). Definition numbers
+//! in comments are those of 000.
 
 pub mod counts;
 pub mod generate;

@@ -370,7 +370,7 @@ pub fn pte_accessed(pte: u32) -> bool {
     pte >> 7 & 1 == 1
 }
 
-// Rights asked by a translation request (reading 13).
+// Rights asked by a translation request.
 pub const WRITE: u32 = 1;
 pub const USER: u32 = 2;
 pub const EXECUTE: u32 = 4;
@@ -572,7 +572,7 @@ fn store_buffer(t: &mut [u32], m: &mut [u8], k: usize) -> Result<(), Why> {
     let r = record(b, n);
     let (a, v, width) = (t[r + 1], t[r + 2], t[r + 3]);
     if in_ports(a) && width != 4 {
-        return Err(NarrowStoreAtPort); // reading 30
+        return Err(NarrowStoreAtPort);
     }
     if in_apic(a) {
         let port = (a - 0xFFFF_F000) as usize;
@@ -866,7 +866,7 @@ fn core_step(t: &mut [u32], m: &mut [u8], k: usize, s: &[u32; 6]) -> Result<Opti
             }
         }
         if !pfls {
-            // pmaEA means something (reading 23).
+            // pmaEA means something.
             let width = isa::width(op);
             if isa::load(op) && hazard(t, b, pma, width) {
                 return Err(Hazard);
@@ -1005,7 +1005,7 @@ fn execute(t: &mut [u32], m: &mut [u8], b: usize, op: Op, i: u32, pma: u32, alu_
             set_gpr(t, b, isa::rd(i), pc.wrapping_add(4));
             next = s;
         }
-        // Definitions 35 to 39, reading 5.
+        // Definitions 35 to 39; fun[2] tells the distances apart.
         Op::Sll => set_gpr(t, b, isa::rd(i), r << isa::sa(i)),
         Op::Srl => set_gpr(t, b, isa::rd(i), r >> isa::sa(i)),
         Op::Sra => set_gpr(t, b, isa::rd(i), (r as i32 >> isa::sa(i)) as u32),
@@ -1022,7 +1022,7 @@ fn execute(t: &mut [u32], m: &mut [u8], b: usize, op: Op, i: u32, pma: u32, alu_
             t[b + HI] = (result >> 32) as u32;
             t[b + LO] = result as u32;
         }
-        // HI and LO are kept (reading 7).
+        // HI and LO are kept.
         Op::Mul => {
             let result = isa::mures(s, r, t[b + HI], t[b + LO], isa::mulcon(i));
             set_gpr(t, b, isa::rd(i), result as u32);

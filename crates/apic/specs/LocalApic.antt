@@ -61,7 +61,7 @@ event b = least (λ (j : ℕ). eev b j) 256 0
 unfoldable pub ended : List ℕ → ℕ → List ℕ
 ended b v = marked (marked (set b eoi v) isr (lowest b isr) 0) eoipending (lowest b isr) 1
 
--- (a, v): a word written at port byte a
+-- (a, v): a word written at port byte a, a multiple of four
 unfoldable pub written : List ℕ → ℕ → ℕ → List ℕ
 written b a v = if eqb a 12 then ended b v else set b (portAt a) v
 

@@ -39,7 +39,7 @@ ds = 12
 abbrev pub writes : ℕ → ℕ → Bool
 writes a v = (eqb a 0 && ltb v 24) || eqb a 4
 
--- (0, v): the select register
+-- (0, v): the select register, where v is below 24
 unfoldable pub selected : List ℕ → ℕ → List ℕ
 selected t v = set (set t ioregsel v) iowin (entry t v)
 

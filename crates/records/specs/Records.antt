@@ -20,7 +20,7 @@ chain zero b n = []
 chain (suc fuel) b zero = []
 chain (suc fuel) b (suc m) = suc m ∷ chain fuel b (getD b (recordAt (suc m)) 0)
 
--- the chain whose head stands in a word; 32 is one more than a chain can have, so that one that runs in a circle is seen to
+-- the chain whose head stands in a word; a chain has at most 31 records, so 32 visits repeat one
 abbrev pub chainAt : List ℕ → ℕ → List ℕ
 chainAt b h = chain 32 b (getD b h 0)
 
@@ -167,9 +167,9 @@ addWalk b w = elim (among w (walks b)) [ true ↦ b | false ↦ insert b walkHea
 unfoldable pub withWalk : Walk → List Walk → List Walk
 withWalk w l = elim (among w l) [ true ↦ l | false ↦ w ∷ l ]
 
--- a walk's first word is va * 4096 + asid * 64 + level * 8 + rights
-abbrev pub pageOf : ℕ → ℕ
-pageOf first = first / 64
+-- a walk's first word is va * 4096 + asid * 64 + level * 8 + rights; its page and address space are one number, va * 64 + asid
+abbrev pub pageKey : ℕ → ℕ
+pageKey first = first / 64
 
 abbrev pub levelOf : ℕ → ℕ
 levelOf first = first / 8 % 4
@@ -177,8 +177,8 @@ levelOf first = first / 8 % 4
 -- which walks go: all; those of a page and address space; those and the incomplete ones
 abbrev pub goes : Flush → ℕ → Bool
 goes All first = true
-goes (Page p) first = eqb (pageOf first) p
-goes (Incomplete p) first = not (eqb (levelOf first) 0) || eqb (pageOf first) p
+goes (Page p) first = eqb (pageKey first) p
+goes (Incomplete p) first = not (eqb (levelOf first) 0) || eqb (pageKey first) p
 
 -- over the records of a chain, whose first link stands in the word `at`: each whose first word is hit is released, one after the other
 unfoldable pub sweep : (ℕ → Bool) → List ℕ → ℕ → List ℕ → List ℕ

@@ -9,7 +9,7 @@ pub enum Step {
     // The fetch walk and the data walk.
     Core(u32, Walk, Walk),
     TlbCreate(u32, u32),
-    // The rights that the words name have no effect: the function extends with 000.
+    // The rights that the words name have no effect: the function extends with rights 000.
     TlbExtend(u32, Walk),
     TlbAccessed(u32, Walk),
     StoreBuffer(u32),

@@ -1,4 +1,4 @@
--- The store buffer (000, section 7: definitions 56 to 61), on the list of a core's pending stores, oldest first.
+-- The store buffer (the report, section 7: definitions 56 to 61), on the list of a core's pending stores, oldest first.
 -- Places count from the oldest, so that the newest has the highest, as in the report.
 -- Assumes nothing.
 use Prim.Native.Nat.{ℕ, zero, suc, _+_, _-_}
@@ -33,7 +33,7 @@ newestFrom i h (s ∷ sb) x = newestFrom (i + 1) (if sbehit s x then At i else h
 abbrev pub maxsbhit : List Store → ℕ → Hit
 maxsbhit sb x = newestFrom 0 Miss sb x
 
--- definition 60: the byte that the newest hit forwards; undefined, here nowhere, if there is none
+-- definition 60: the byte that the newest hit forwards; undefined, here nowhere, if there is none. No aligned store runs past the last address.
 abbrev pub forwardedBy : List Store → ℕ → Hit → Read
 forwardedBy sb x (At j) = There (byte (x - getD sb j noStore .address) (getD sb j noStore .value))
 forwardedBy sb x Miss = Nowhere

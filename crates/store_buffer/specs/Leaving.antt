@@ -1,4 +1,4 @@
--- The step of the store buffer (000, section 11.3): the oldest store, and where it goes.
+-- The step of the store buffer (the report, section 11.3): the oldest store, and where it goes.
 -- Assumes nothing.
 use Prim.Native.Nat.{ℕ, _+_}
 use mathlib.Core.List.{List, [], _∷_}

@@ -1,4 +1,4 @@
--- The memory that a core sees (000, definitions 4 and 70 to 77), and what a load gives.
+-- The memory that a core sees (the report, definitions 4 and 70 to 77), and what a load gives.
 -- Assumes nothing.
 use Prim.Native.Nat.{ℕ, zero, suc, _+_, _*_, _/_, _%_}
 use mathlib.Core.Bool.{Bool, _&&_, _||_}

@@ -10,9 +10,10 @@ use lib.Dec.{eqb, ltb, leb}
 use borrow.Author.Tests.{lt-ltb, le-ltb, le-leb, lt-leb, leb-true, eq-eqb, ne-eqb}
 use Rattle.layout.specs.Layout as at
 use Rattle.records.proofs.Counts.{either, and-right}
+use Rattle.tables.specs.declared.make.Made.{Made}
 use Rattle.tables.specs.declared.make.Made.the-variants.{Done, Cores, Memory, Length}
 use Rattle.tables.specs.Sound.{upTo}
-use Rattle.tables.specs.Make.{answer, wholePages}
+use Rattle.tables.specs.Make.{answer, refusal, numberOf, wholePages}
 
 leb-not : (a b : ℕ) → leb a b ≡ not (ltb b a)
 leb-not a b = either (decLt b a) (λ h. rw (lt-leb a b h, lt-ltb b a h)) (λ h. rw (le-leb a b (omega arith), le-ltb b a (omega arith)))
@@ -61,3 +62,16 @@ module _ (n m l : ℕ) where
       pub accept : l ≡ 32 + 256 * n → Done ≡ answer n m l
       unfolding answer
       accept d = let f : eqb l (at.tableWords n) ≡ true = eq-eqb l (at.tableWords n) d in rw (few, answer) (rw (whole, answer) (rw (f, answer)))
+
+-- the numbers of the answers are 01's refusals
+number-cases : (a b c : Bool) →
+    numberOf (elim a [ false ↦ Cores | true ↦ elim b [ false ↦ Memory | true ↦ elim c [ false ↦ Length | true ↦ Done ] ] ])
+    ≡ elim a [ false ↦ 1 | true ↦ elim b [ false ↦ 2 | true ↦ elim c [ false ↦ 3 | true ↦ 0 ] ] ]
+number-cases false b c = refl
+number-cases true false c = refl
+number-cases true true false = refl
+number-cases true true true = refl
+
+pub numbered : (n m l : ℕ) {r : Made} → r ≡ answer n m l → numberOf r ≡ refusal n m l
+unfolding answer refusal
+numbered n m l e = ap numberOf e ∙ number-cases (upTo at.mostCores n) (wholePages m) (eqb l (at.tableWords n))

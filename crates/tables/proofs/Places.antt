@@ -16,7 +16,7 @@ use Rattle.records.specs.Records.{stores, walks}
 use Rattle.records.proofs.Counts.{either, and-left, and-right, and-both}
 use Rattle.records.proofs.Frame.{Alike, set-alike, same-stores, same-walks, same-sound}
 use Rattle.tables.specs.Views.{runningOf, sipirrOf, sipivectOf, initrrOf, registersOf}
-use Rattle.tables.specs.Sound.{zeroFrom, flag, soundWords, soundBlock}
+use Rattle.tables.specs.Sound.{zeroFrom, isFlag, soundWords, soundBlock}
 use Rattle.tables.proofs.Parts.{words-of, records-of, of-parts}
 
 -- ---- sound words as facts
@@ -49,16 +49,16 @@ module _ (b : List ℕ) where
       let e₂ = and-right (eqb (getD b at.blockGap 0) 0) _ e₁ in
       let z = and-left (zeroFrom at.blockRestWords at.blockRest b) _ e₂ in
       let e₃ = and-right (zeroFrom at.blockRestWords at.blockRest b) _ e₂ in
-      let e₄ = and-right (flag (runningOf b)) _ e₃ in
-      let e₅ = and-right (flag (sipirrOf b)) _ e₄ in
+      let e₄ = and-right (isFlag (runningOf b)) _ e₃ in
+      let e₅ = and-right (isFlag (sipirrOf b)) _ e₄ in
       record {
         zero-register = eqb-true (getD b at.gpr 0) 0 (and-left (eqb (getD b at.gpr 0) 0) _ e);
         gap = eqb-true (getD b at.blockGap 0) 0 (and-left (eqb (getD b at.blockGap 0) 0) _ e₁);
         rest = λ i p q. zeros-elim at.blockRestWords at.blockRest b z i p (omega arith);
-        running = leb-true (runningOf b) 1 (and-left (flag (runningOf b)) _ e₃);
-        sipirr = leb-true (sipirrOf b) 1 (and-left (flag (sipirrOf b)) _ e₄);
-        initrr = leb-true (initrrOf b) 1 (and-left (flag (initrrOf b)) _ e₅);
-        vector = ltb-true (sipivectOf b) 256 (and-right (flag (initrrOf b)) _ e₅);
+        running = leb-true (runningOf b) 1 (and-left (isFlag (runningOf b)) _ e₃);
+        sipirr = leb-true (sipirrOf b) 1 (and-left (isFlag (sipirrOf b)) _ e₄);
+        initrr = leb-true (initrrOf b) 1 (and-left (isFlag (initrrOf b)) _ e₅);
+        vector = ltb-true (sipivectOf b) 256 (and-right (isFlag (initrrOf b)) _ e₅);
       }
 
   pub facts-words : Words b → soundWords b ≡ true
@@ -67,9 +67,9 @@ module _ (b : List ℕ) where
       and-both (eqb (getD b at.gpr 0) 0) _ (eq-eqb (getD b at.gpr 0) 0 (W .zero-register))
       (and-both (eqb (getD b at.blockGap 0) 0) _ (eq-eqb (getD b at.blockGap 0) 0 (W .gap))
       (and-both (zeroFrom at.blockRestWords at.blockRest b) _ (zeros-intro at.blockRestWords at.blockRest b (λ i p q. W .rest i p (omega arith)))
-      (and-both (flag (runningOf b)) _ (le-leb (runningOf b) 1 (W .running))
-      (and-both (flag (sipirrOf b)) _ (le-leb (sipirrOf b) 1 (W .sipirr))
-      (and-both (flag (initrrOf b)) _ (le-leb (initrrOf b) 1 (W .initrr)) (lt-ltb (sipivectOf b) 256 (W .vector)))))))
+      (and-both (isFlag (runningOf b)) _ (le-leb (runningOf b) 1 (W .running))
+      (and-both (isFlag (sipirrOf b)) _ (le-leb (sipirrOf b) 1 (W .sipirr))
+      (and-both (isFlag (initrrOf b)) _ (le-leb (initrrOf b) 1 (W .initrr)) (lt-ltb (sipivectOf b) 256 (W .vector)))))))
 
 -- another block whose words below the records are the same, but for the heads
 pub words-same : (b c : List ℕ) → ((i : ℕ) → i < 128 → i ≢ at.storeHead → i ≢ at.walkHead → i ≢ at.freeHead → getD c i 0 ≡ getD b i 0) → soundWords b ≡ true → soundWords c ≡ true

@@ -1,4 +1,4 @@
--- The operation Make (01, 'Make a machine'; 000, 12.1).
+-- The operation Make (01, 'Make a machine'; the report, 12.1).
 -- Assumes nothing.
 use Prim.Native.Nat.{ℕ, zero, suc, _+_, _*_, _/_, _%_, _^_}
 use mathlib.Core.Bool.{Bool, true, false, _&&_}
@@ -52,9 +52,17 @@ madeOr Cores n m t = t
 madeOr Memory n m t = t
 madeOr Length n m t = t
 
--- this paper's number for each answer, 0 where the machine is made
+-- 01's number for each answer, 0 where the machine is made
 abbrev pub numberOf : Made → ℕ
 numberOf Done = 0
 numberOf Cores = 1
 numberOf Memory = 2
 numberOf Length = 3
+
+-- 01's refusals in their order: 1, cores not 1 to 4; 2, memory not 1 to 4,096 whole pages; 3, table length not that of the cores
+unfoldable pub refusal : ℕ → ℕ → ℕ → ℕ
+refusal n m l =
+    elim (upTo at.mostCores n) [
+      | false ↦ 1
+      | true ↦ elim (wholePages m) [ false ↦ 2 | true ↦ elim (eqb l (at.tableWords n)) [ false ↦ 3 | true ↦ 0 ] ]
+    ]

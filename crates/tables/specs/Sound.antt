@@ -20,8 +20,8 @@ abbrev pub upTo : ℕ → ℕ → Bool
 upTo m x = leb 1 x && leb x m
 
 -- 0 or 1
-abbrev pub flag : ℕ → Bool
-flag x = leb x 1
+abbrev pub isFlag : ℕ → Bool
+isFlag x = leb x 1
 
 -- general register 0 and the fixed zeros of a block are zero, its flags are 0 or 1, and sipivect is below 256
 unfoldable pub soundWords : List ℕ → Bool
@@ -29,7 +29,7 @@ soundWords b =
     eqb (getD b at.gpr 0) 0
     && (eqb (getD b at.blockGap 0) 0
     && (zeroFrom at.blockRestWords at.blockRest b
-    && (flag (runningOf b) && (flag (sipirrOf b) && (flag (initrrOf b) && ltb (sipivectOf b) 256)))))
+    && (isFlag (runningOf b) && (isFlag (sipirrOf b) && (isFlag (initrrOf b) && ltb (sipivectOf b) 256)))))
 
 -- a block is sound, where memory has n bytes
 unfoldable pub soundBlock : ℕ → List ℕ → Bool

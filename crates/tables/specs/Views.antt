@@ -1,4 +1,4 @@
--- What the words of the tables are: the block of a core, its registers and its APIC, and the header.
+-- What the words of the tables are: the header, and the registers and the APIC of a core's block.
 -- The pending stores and walks of a block are views of the crate records.
 -- Assumes nothing.
 use Prim.Native.Nat.{ℕ, _+_, _/_, _%_, _^_}

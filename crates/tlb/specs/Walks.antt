@@ -1,4 +1,4 @@
--- Walks, page table entries and translation requests (000, section 5). A walk is its two words, an entry its word.
+-- Walks, page table entries and translation requests (the report, section 5). A walk is its two words, an entry its word.
 -- Assumes nothing.
 use mathlib.Core.Bool.{Bool, _&&_, _||_, not}
 use mathlib.Core.List.{List, [], _∷_}

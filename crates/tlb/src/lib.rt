@@ -1,4 +1,7 @@
 // Walks and page table entries (specs/Walks.antt), and what the TLB's own steps decide and do (specs/Steps.antt).
+use layout::ASID;
+use layout::MODE;
+use layout::PTO;
 use layout::RUNNING;
 use layout::SPR;
 use records::Walk;
@@ -220,13 +223,6 @@ pub enum Decision {
     Adds(Walk),
     Marks(u32, u32),
 }
-
-// The special registers that the TLB's own steps read.
-const PTO: usize = 5;
-
-const ASID: usize = 6;
-
-const MODE: usize = 7;
 
 // What a core's block says: user mode, whether the core runs, the address space and the page table origin.
 
