@@ -1,4 +1,5 @@
 // Instructions, by the sections of tables 1 to 4, and the code that finds a word's.
+pub mod classes;
 pub mod fields;
 
 ghost use mathlib.Core.Path.{_≡_};
