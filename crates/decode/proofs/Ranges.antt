@@ -1,13 +1,13 @@
 -- Classes of instructions as ranges of their numbers: each is tested on every row of the tables.
 -- Assumes nothing.
 use mathlib.Core.Path.{_≡_}
-use mathlib.Core.Bool.{Bool, _&&_}
+use mathlib.Core.Bool.{Bool, _&&_, _||_}
 use Prim.Native.Nat.{ℕ}
 use lib.Dec.{T, eqb, ltb}
 use Rattle.word.proofs.Tests.{same, same-eq}
 use Rattle.decode.specs.declared.Instruction.{Instruction}
 use Rattle.decode.specs.Table.{table}
-use Rattle.decode.specs.Mnemonics.{number, load, store, cas, mfence, flush, invlpg}
+use Rattle.decode.specs.Mnemonics.{number, itype, rtype, compi, compr, alu, load, store, cas, mfence, flush, invlpg}
 use Rattle.decode.proofs.Numbers.{everywhere, every}
 
 -- two predicates that agree on every row agree
@@ -37,3 +37,15 @@ flush-number = agree (λ (i : Instruction). eqb (number i) 51) flush tt
 pub invlpg-number : (i : Instruction) → eqb (number i) 52 ≡ invlpg i
 unfolding invlpg
 invlpg-number = agree (λ (i : Instruction). eqb (number i) 52) invlpg tt
+
+pub itype-range : (i : Instruction) → ltb (number i) 22 ≡ itype i
+unfolding itype
+itype-range = agree (λ (i : Instruction). ltb (number i) 22) itype tt
+
+pub rtype-range : (i : Instruction) → (ltb 23 (number i) && ltb (number i) 61) ≡ rtype i
+unfolding rtype
+rtype-range = agree (λ (i : Instruction). ltb 23 (number i) && ltb (number i) 61) rtype tt
+
+pub alu-range : (i : Instruction) → ((ltb 7 (number i) && ltb (number i) 16) || (ltb 35 (number i) && ltb (number i) 46)) ≡ alu i
+unfolding alu compi compr
+alu-range = agree (λ (i : Instruction). (ltb 7 (number i) && ltb (number i) 16) || (ltb 35 (number i) && ltb (number i) 46)) alu tt

@@ -199,3 +199,26 @@ pub fn is_invlpg(i: Instruction) -> bool
 {
     number(i) == 52
 }
+
+// Table 1.
+pub fn is_itype(i: Instruction) -> bool
+    ensures { λ r. ⌜ r ≡ m.itype i ⌝ }
+{
+    number(i) < 22
+}
+
+// Tables 3 and 4.
+pub fn is_rtype(i: Instruction) -> bool
+    ensures { λ r. ⌜ r ≡ m.rtype i ⌝ }
+{
+    let n = number(i);
+    (23 < n) & (n < 61)
+}
+
+// Definition 26: with an immediate, or with two registers.
+pub fn is_alu(i: Instruction) -> bool
+    ensures { λ r. ⌜ r ≡ m.alu i ⌝ }
+{
+    let n = number(i);
+    (7 < n) & (n < 16) | (35 < n) & (n < 46)
+}

@@ -13,7 +13,7 @@ use Rattle.decode.specs.declared.System.the-variants.{Cas}
 use Rattle.decode.specs.declared.Instruction.{Instruction}
 use Rattle.decode.specs.declared.Instruction.the-variants.{Illegal}
 use Rattle.decode.specs.Table.{table}
-use Rattle.decode.specs.Mnemonics.{among, itype, rtype, compi, compr, alu, ill, sysc, eret}
+use Rattle.decode.specs.Mnemonics.{among, itype, ill, sysc, eret}
 use Rattle.decode.proofs.Numbers.{everywhere, every}
 use Rattle.isa.specs.Core.{d, mal}
 use Rattle.isa.specs.Interrupts.{privileged}
@@ -94,41 +94,6 @@ illGroup Illegal = true
 pub ill-group : (i : Instruction) → ill i ≡ illGroup i
 unfolding ill
 ill-group = by-groups ill illGroup tt
-
--- ALU instructions, and which of them are of R-type
-abbrev pub aluGroup : Instruction → Bool
-aluGroup (Instruction.Load x) = false
-aluGroup (Instruction.Store x) = false
-aluGroup (Instruction.Immediate x) = true
-aluGroup (Instruction.Branch x) = false
-aluGroup (Instruction.Jump x) = false
-aluGroup (Instruction.Shift x) = false
-aluGroup (Instruction.Multiply x) = false
-aluGroup (Instruction.Move x) = false
-aluGroup (Instruction.Alu x) = true
-aluGroup (Instruction.System x) = false
-aluGroup Illegal = false
-
-pub alu-group : (i : Instruction) → alu i ≡ aluGroup i
-unfolding alu compi compr
-alu-group = by-groups alu aluGroup tt
-
-abbrev pub rtypeGroup : Instruction → Bool
-rtypeGroup (Instruction.Load x) = false
-rtypeGroup (Instruction.Store x) = false
-rtypeGroup (Instruction.Immediate x) = false
-rtypeGroup (Instruction.Branch x) = false
-rtypeGroup (Instruction.Jump x) = rtype (Instruction.Jump x)
-rtypeGroup (Instruction.Shift x) = true
-rtypeGroup (Instruction.Multiply x) = true
-rtypeGroup (Instruction.Move x) = true
-rtypeGroup (Instruction.Alu x) = true
-rtypeGroup (Instruction.System x) = true
-rtypeGroup Illegal = false
-
-pub rtype-group : (i : Instruction) → rtype i ≡ rtypeGroup i
-unfolding rtype
-rtype-group = by-groups rtype rtypeGroup tt
 
 -- the width of an access
 abbrev pub widthGroup : Instruction → ℕ

@@ -11,11 +11,13 @@ use borrow.Author.Tests.{eqb-false, eqb-true}
 use Rattle.word.specs.Word.{if_then_else_}
 use Rattle.decode.specs.declared.Multiply.the-variants.{Mul}
 use Rattle.decode.specs.declared.Instruction.{Instruction}
+use Rattle.decode.specs.Fields.{rs, rt}
 use Rattle.decode.specs.Table.{decoded}
 use Rattle.decode.specs.Mnemonics.{movg2s, mulacc, mthi, mtlo, mul}
 use Rattle.isa.specs.declared.registers.Registers.{Registers}
-use Rattle.isa.specs.Core.{gprAt, sprAt, putAt, effect, deltaInstr, gprw, cad, gprdin, hiAfterMul, loAfterMul}
-use Rattle.isa.specs.Interrupts.{deltaJisr, deltaRfe, continues, il}
+use Rattle.isa.specs.Core.{gprAt, sprAt, putAt, ea, effect, deltaInstr, gprw, cad, gprdin, hiAfterMul, loAfterMul}
+use Rattle.isa.specs.Interrupts.{user, eventsAs, deltaJisr, deltaRfe, continues, il}
+use Rattle.isa.specs.Steps.{eaBy, eventsBy}
 
 -- ---- general register 0
 
@@ -59,3 +61,13 @@ pub mul-leaves : (c : Registers) (w R : ℕ) → decoded w ≡ Instruction.Multi
     (deltaInstr c w R .hi ≡ hiAfterMul c) × (deltaInstr c w R .lo ≡ loAfterMul c)
 unfolding deltaInstr mulacc mthi mtlo mul
 mul-leaves c w R e = (rw e, rw e)
+
+-- ---- operands
+
+-- the effective address and the events need no register but rs and rt
+pub ea-by : (i : Instruction) (c : Registers) (w : ℕ) → ea i c w ≡ eaBy i w (gprAt c (rs w))
+ea-by i c w = refl
+
+pub events-by : (i : Instruction) (c : Registers) (w : ℕ) (io pfls : Bool) →
+    eventsAs i c w io pfls ≡ eventsBy i w (gprAt c (rs w)) (gprAt c (rt w)) (user c) io pfls
+events-by i c w io pfls = refl
