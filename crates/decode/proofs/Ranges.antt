@@ -1,13 +1,13 @@
 -- Classes of instructions as ranges of their numbers: each is tested on every row of the tables.
 -- Assumes nothing.
 use mathlib.Core.Path.{_≡_}
-use mathlib.Core.Bool.{Bool, _&&_, _||_}
+use mathlib.Core.Bool.{Bool, not, _&&_, _||_}
 use Prim.Native.Nat.{ℕ}
 use lib.Dec.{T, eqb, ltb}
 use Rattle.word.proofs.Tests.{same, same-eq}
 use Rattle.decode.specs.declared.Instruction.{Instruction}
 use Rattle.decode.specs.Table.{table}
-use Rattle.decode.specs.Mnemonics.{number, itype, rtype, compi, compr, alu, load, store, cas, mfence, flush, invlpg}
+use Rattle.decode.specs.Mnemonics.{number, itype, rtype, compi, compr, alu, mulacc, load, store, cas, mfence, flush, invlpg, movg2s}
 use Rattle.decode.proofs.Numbers.{everywhere, every}
 
 -- two predicates that agree on every row agree
@@ -49,3 +49,11 @@ rtype-range = agree (λ (i : Instruction). ltb 23 (number i) && ltb (number i) 6
 pub alu-range : (i : Instruction) → ((ltb 7 (number i) && ltb (number i) 16) || (ltb 35 (number i) && ltb (number i) 46)) ≡ alu i
 unfolding alu compi compr
 alu-range = agree (λ (i : Instruction). (ltb 7 (number i) && ltb (number i) 16) || (ltb 35 (number i) && ltb (number i) 46)) alu tt
+
+pub mulacc-range : (i : Instruction) → ((ltb 33 (number i) && ltb (number i) 36) || ((ltb 52 (number i) && ltb (number i) 58) && not (eqb (number i) 55))) ≡ mulacc i
+unfolding mulacc
+mulacc-range = agree (λ (i : Instruction). (ltb 33 (number i) && ltb (number i) 36) || ((ltb 52 (number i) && ltb (number i) 58) && not (eqb (number i) 55))) mulacc tt
+
+pub movg2s-number : (i : Instruction) → eqb (number i) 59 ≡ movg2s i
+unfolding movg2s
+movg2s-number = agree (λ (i : Instruction). eqb (number i) 59) movg2s tt

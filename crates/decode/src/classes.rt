@@ -222,3 +222,17 @@ pub fn is_alu(i: Instruction) -> bool
     let n = number(i);
     (7 < n) & (n < 16) | (35 < n) & (n < 46)
 }
+
+// Definition 32: a multiplication that writes HI and LO.
+pub fn is_mulacc(i: Instruction) -> bool
+    ensures { λ r. ⌜ r ≡ m.mulacc i ⌝ }
+{
+    let n = number(i);
+    (33 < n) & (n < 36) | (52 < n) & (n < 58) & !(n == 55)
+}
+
+pub fn is_movg2s(i: Instruction) -> bool
+    ensures { λ r. ⌜ r ≡ m.movg2s i ⌝ }
+{
+    number(i) == 59
+}
