@@ -7,7 +7,7 @@ use lib.Dec.{T, eqb, ltb}
 use Rattle.word.proofs.Tests.{same, same-eq}
 use Rattle.decode.specs.declared.Instruction.{Instruction}
 use Rattle.decode.specs.Table.{table}
-use Rattle.decode.specs.Mnemonics.{number, itype, rtype, compi, compr, alu, mulacc, load, store, cas, mfence, flush, invlpg, movg2s}
+use Rattle.decode.specs.Mnemonics.{number, itype, rtype, compi, compr, alu, mulacc, load, store, cas, mfence, flush, invlpg, eret, sysc, movg2s, ill}
 use Rattle.decode.proofs.Numbers.{everywhere, every}
 
 -- two predicates that agree on every row agree
@@ -57,3 +57,15 @@ mulacc-range = agree (λ (i : Instruction). (ltb 33 (number i) && ltb (number i)
 pub movg2s-number : (i : Instruction) → eqb (number i) 59 ≡ movg2s i
 unfolding movg2s
 movg2s-number = agree (λ (i : Instruction). eqb (number i) 59) movg2s tt
+
+pub sysc-number : (i : Instruction) → eqb (number i) 48 ≡ sysc i
+unfolding sysc
+sysc-number = agree (λ (i : Instruction). eqb (number i) 48) sysc tt
+
+pub eret-number : (i : Instruction) → eqb (number i) 58 ≡ eret i
+unfolding eret
+eret-number = agree (λ (i : Instruction). eqb (number i) 58) eret tt
+
+pub ill-number : (i : Instruction) → eqb (number i) 61 ≡ ill i
+unfolding ill
+ill-number = agree (λ (i : Instruction). eqb (number i) 61) ill tt

@@ -200,13 +200,6 @@ pub fn is_invlpg(i: Instruction) -> bool
     number(i) == 52
 }
 
-// Table 1.
-pub fn is_itype(i: Instruction) -> bool
-    ensures { λ r. ⌜ r ≡ m.itype i ⌝ }
-{
-    number(i) < 22
-}
-
 // Tables 3 and 4.
 pub fn is_rtype(i: Instruction) -> bool
     ensures { λ r. ⌜ r ≡ m.rtype i ⌝ }

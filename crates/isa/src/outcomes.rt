@@ -29,8 +29,8 @@ pub struct Operands {
 
 // The general register to write, 0 for none, and its value; the next pc, HI and LO.
 pub struct Outcome {
-    pub register: u32,
-    pub value: u32,
+    pub n: u32,
+    pub v: u32,
     pub pc: u32,
     pub hi: u32,
     pub lo: u32,
@@ -99,8 +99,8 @@ impl Operands {
         ensures { λ r. ⌜ r ≡ s.went self n v pc ⌝ }
     {
         Outcome {
-            register: n,
-            value: v,
+            n,
+            v,
             pc,
             hi: self.hi,
             lo: self.lo,
@@ -113,8 +113,8 @@ impl Operands {
     {
         let pc = self.after();
         Outcome {
-            register: 0,
-            value: 0,
+            n: 0,
+            v: 0,
             pc,
             hi,
             lo,

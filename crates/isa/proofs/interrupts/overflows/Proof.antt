@@ -8,17 +8,17 @@ is-alu-requires c κs = search needs
 is-rtype-requires : tie.Need-is-rtype-requires
 is-rtype-requires c κs = search needs
 
-right-operand-requires : tie.Need-right-operand-requires
-right-operand-requires c κs = search needs
-
 control-requires : tie.Need-control-requires
 control-requires c κs = search needs
+
+right-operand-requires : tie.Need-right-operand-requires
+right-operand-requires c κs = search needs
 
 overflow-requires : tie.Need-overflow-requires
 overflow-requires c κs = search needs
 
 returns : tie.Need-returns
-returns c = rw (c .overflow .ensures, c .before .control .ensures, c .before .before .right-operand .ensures, c .before .before .before .is-rtype .ensures, ← c .before .before .before .before .before .is-alu .ensures, c .before .before .before .before .if1 .taken)
+returns c = rw (c .overflow .ensures, c .before .before .control .ensures, c .before .right-operand .ensures, c .before .before .before .is-rtype .ensures, ← c .before .before .before .before .before .is-alu .ensures, c .before .before .before .before .if1 .taken)
 
 returns-2 : tie.Need-returns-2
 returns-2 c = rw (← c .before .is-alu .ensures, c .if1 .left)
@@ -29,8 +29,8 @@ overflows-spec =
     (tie.spec
     is-alu-requires
     is-rtype-requires
-    right-operand-requires
     control-requires
+    right-operand-requires
     overflow-requires
     returns
     returns-2)

@@ -1,109 +1,26 @@
-use Rattle.isa.proofs.Groups.{width-group}
 use borrow.Author.Needs.{needs}
 use Rattle.isa.proofs.interrupts.width.Statement.{statement}
 use Rattle.isa.proofs.interrupts.width.Tie as tie
+use Rattle.isa.proofs.Ranges.{width-number}
+use borrow.Author.Tests.{lt-ltb, le-ltb, eq-eqb, ne-eqb}
 
-enum-known-i : tie.Need-enum-known-i
-enum-known-i c = search needs
+number-requires : tie.Need-number-requires
+number-requires c κs = search needs
 
-load-width-requires : tie.Need-load-width-requires
-load-width-requires c κs = search needs
+mul-result : tie.Need-mul-result
+mul-result c = search needs
 
-enum-known-i-2 : tie.Need-enum-known-i-2
-enum-known-i-2 c = search needs
-
-store-width-requires : tie.Need-store-width-requires
-store-width-requires c κs = search needs
-
-enum-known-i-3 : tie.Need-enum-known-i-3
-enum-known-i-3 c = search needs
-
-system-width-requires : tie.Need-system-width-requires
-system-width-requires c κs = search needs
-
-enum-told : tie.Need-enum-told
-enum-told c = search needs
-
-enum-told-2 : tie.Need-enum-told-2
-enum-told-2 c = search needs
-
-enum-told-3 : tie.Need-enum-told-3
-enum-told-3 c = search needs
-
-enum-told-4 : tie.Need-enum-told-4
-enum-told-4 c = search needs
-
-enum-told-5 : tie.Need-enum-told-5
-enum-told-5 c = search needs
-
-enum-told-6 : tie.Need-enum-told-6
-enum-told-6 c = search needs
-
-enum-told-7 : tie.Need-enum-told-7
-enum-told-7 c = search needs
-
-enum-told-8 : tie.Need-enum-told-8
-enum-told-8 c = search needs
+shr-result : tie.Need-shr-result
+shr-result c = search needs
 
 returns : tie.Need-returns
-returns c = rw (width-group _, c .load-width .ensures, c .before .before .i .given .1)
+returns c = rw (width-number _, ← c .before .number .ensures, lt-ltb _ _ (c .if1 .taken))
 
 returns-2 : tie.Need-returns-2
-returns-2 c = rw (width-group _, c .store-width .ensures, c .before .before .i2 .given .1)
+returns-2 c = rw (width-number _, ← c .before .before .number .ensures, le-ltb (c .before .before .number .result) 8 (c .before .if1 .left), eq-eqb _ _ (c .if2 .taken))
 
 returns-3 : tie.Need-returns-3
-returns-3 c = rw (width-group _, c .system-width .ensures, c .before .before .i3 .given .1)
-
-returns-4 : tie.Need-returns-4
-returns-4 c = rw (width-group _, c .enum-told .given .1)
-
-returns-5 : tie.Need-returns-5
-returns-5 c = rw (width-group _, c .enum-told2 .given .1)
-
-returns-6 : tie.Need-returns-6
-returns-6 c = rw (width-group _, c .enum-told3 .given .1)
-
-returns-7 : tie.Need-returns-7
-returns-7 c = rw (width-group _, c .enum-told4 .given .1)
-
-returns-8 : tie.Need-returns-8
-returns-8 c = rw (width-group _, c .enum-told5 .given .1)
-
-returns-9 : tie.Need-returns-9
-returns-9 c = rw (width-group _, c .enum-told6 .given .1)
-
-returns-10 : tie.Need-returns-10
-returns-10 c = rw (width-group _, c .enum-told7 .given .1)
-
-returns-11 : tie.Need-returns-11
-returns-11 c = rw (width-group _, c .enum-told8 .given .1)
+returns-3 c = rw (width-number _, ← c .before .before .number .ensures, le-ltb (c .before .before .number .result) 8 (c .before .if1 .left), ne-eqb _ _ (c .if2 .left))
 
 pub width-spec : {M : Type 1} → statement M
-width-spec =
-    tie.close
-    (tie.spec
-    enum-known-i
-    load-width-requires
-    enum-known-i-2
-    store-width-requires
-    enum-known-i-3
-    system-width-requires
-    enum-told
-    enum-told-2
-    enum-told-3
-    enum-told-4
-    enum-told-5
-    enum-told-6
-    enum-told-7
-    enum-told-8
-    returns
-    returns-2
-    returns-3
-    returns-4
-    returns-5
-    returns-6
-    returns-7
-    returns-8
-    returns-9
-    returns-10
-    returns-11)
+width-spec = tie.close (tie.spec number-requires mul-result shr-result returns returns-2 returns-3)

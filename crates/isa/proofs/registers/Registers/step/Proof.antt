@@ -1,4 +1,5 @@
 use Rattle.isa.specs.Interrupts.{deltaCore}
+use Rattle.isa.specs.Core.{deltaInstr}
 use borrow.Author.Tests.{eq-eqb, ne-eqb}
 use borrow.Author.Needs.{needs}
 use Rattle.isa.proofs.registers.Registers.step.Statement.{statement}
@@ -30,12 +31,12 @@ returns-2 : tie.Need-returns-2
 unfolding deltaCore
 returns-2 c = rw (← c .before .before .before .before .before .masked .ensures, eq-eqb _ _ (c .before .before .before .before .if1 .left), ← c .before .before .before .decode .ensures, ← c .before .before .is-return .ensures, c .before .if2 .taken, c .eret .ensures)
 
-execute-requires : tie.Need-execute-requires
-execute-requires c κs = search needs
+effect-requires : tie.Need-effect-requires
+effect-requires c κs = search needs
 
 returns-3 : tie.Need-returns-3
-unfolding deltaCore
-returns-3 c = rw (← c .before .before .before .before .before .masked .ensures, eq-eqb _ _ (c .before .before .before .before .if1 .left), ← c .before .before .before .decode .ensures, ← c .before .before .is-return .ensures, c .before .if2 .left, c .execute .ensures)
+unfolding deltaCore deltaInstr
+returns-3 c = rw (← c .before .before .before .before .before .masked .ensures, eq-eqb _ _ (c .before .before .before .before .if1 .left), ← c .before .before .before .decode .ensures, ← c .before .before .is-return .ensures, c .before .if2 .left, c .effect .ensures)
 
 pub step-spec : {M : Type 1} → statement M
 step-spec =
@@ -49,5 +50,5 @@ step-spec =
     is-return-requires
     eret-requires
     returns-2
-    execute-requires
+    effect-requires
     returns-3)
