@@ -1,0 +1,9 @@
+pub mod Settle
+pub mod Words
+pub mod Accesses
+pub mod Held
+pub mod Judging
+pub mod Adding
+pub mod Written
+pub mod Changes
+pub mod Doing

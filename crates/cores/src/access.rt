@@ -1,0 +1,429 @@
+// An instruction that was fetched: data access, causes and effect (11.3).
+use super::BufferChange;
+use super::Plan;
+use super::WalkChange;
+use super::Write;
+use super::block;
+use super::causes;
+use super::finish;
+use super::refused;
+use super::translation;
+use apic::vectors::Found;
+use decode::Instruction;
+use decode::classes;
+use decode::fields;
+use isa::interrupts;
+use records::Flush;
+use records::Store;
+use records::Walk;
+use store_buffer::Loaded;
+use store_buffer::Read;
+use tlb::Request;
+use tlb::Verdict;
+ghost use mathlib.Core.Path.{_≡_};
+ghost use mathlib.Core.Bool.{true, not, _||_};
+ghost use Prim.Native.Nat.{_%_, _*_, _^_};
+ghost use lib.ListN.{length};
+ghost use lib.Dec.{ltb};
+ghost use Rattle.isa.specs.Core.{d, mal, ea};
+ghost use Rattle.isa.specs.Interrupts.{user};
+ghost use Rattle.records.specs.Records.{linked, stores};
+ghost use Rattle.records.specs.Contents.{soundRecords, allThere};
+ghost use Rattle.store_buffer.specs.System.{aligned, sized, loaded, portsOf, reads, memoryByte};
+ghost use Rattle.tables.specs.Views.{registersOf};
+ghost use Rattle.tlb.specs.declared.Verdict.the-variants as verdict;
+ghost use Rattle.cores.specs.Guards.{settle};
+ghost use Rattle.cores.specs.Plans as p;
+ghost use Rattle.cores.specs.Core as x;
+
+fn load(
+    event: Found,
+    b: &[u32],
+    select: u32,
+    window: u32,
+    m: &[u8],
+    i: Instruction,
+    w: u32,
+    causes: u32,
+    a: u32,
+) -> Plan
+    requires { ⌜ length (now b) ≡ 256 ⌝ }
+    requires { ⌜ soundRecords (length (now m)) (now b) ≡ true ⌝ }
+    requires { ⌜ aligned a (d i) ≡ true ⌝ }
+    ensures { λ r. ⌜ r ≡ x.onLoad (x.viewWith event (now (b .entry)) select window) i w causes (loaded (stores (now (b .entry))) (portsOf (now (b .entry)) select window) (now (m .entry)) a (d i)) ⌝ }
+{
+    let l = store_buffer::load(b, select, window, m, a, interrupts::width(i));
+    match l {
+        Loaded::Value(v, _) => finish::finished(
+            i,
+            w,
+            v,
+            causes,
+            event,
+            BufferChange::Nothing,
+            WalkChange::Nothing,
+            Write::Nothing,
+        ),
+        Loaded::Nowhere => refused(7),
+        Loaded::Hazard => refused(6),
+    }
+}
+
+// Whether the bytes are all in memory or in ports; they are aligned, so the first one tells.
+fn is_there(a: u32, width: u32, bytes: usize) -> bool
+    requires { ⌜ aligned a width ≡ true ⌝ }
+    requires { ⌜ bytes % 4 ≡ 0 ⌝ }
+    ensures { λ r. ⌜ r ≡ allThere width bytes a ⌝ }
+{
+    ((a as usize) < bytes) | store_buffer::is_port(a)
+}
+
+// The low bytes of a value.
+fn low(v: u32, width: u32) -> u32
+    requires { ⌜ sized width ≡ true ⌝ }
+    ensures { λ r. ⌜ r ≡ v % 2 ^ (8 * width) ⌝ }
+{
+    if width == 1 {
+        return v % 256;
+    }
+    if width == 2 {
+        return v % 0x1_0000;
+    }
+    v
+}
+
+fn stored(b: &[u32], i: Instruction, w: u32, a: u32) -> Store
+    requires { ⌜ length (now b) ≡ 256 ⌝ }
+    requires { ⌜ sized (d i) ≡ true ⌝ }
+    ensures { λ r. ⌜ r ≡ x.storedFrom (registersOf (now (b .entry))) i w a ⌝ }
+{
+    let width = interrupts::width(i);
+    let value = low(block::general(b, fields::rt(w)), width);
+    Store {
+        address: a,
+        value,
+        width,
+    }
+}
+
+fn store(
+    event: Found,
+    b: &[u32],
+    select: u32,
+    window: u32,
+    m: &[u8],
+    i: Instruction,
+    w: u32,
+    causes: u32,
+    a: u32,
+) -> Plan
+    requires { ⌜ length (now b) ≡ 256 ⌝ }
+    requires { ⌜ linked (now b) ≡ true ⌝ }
+    requires { ⌜ length (now m) % 4 ≡ 0 ⌝ }
+    requires { ⌜ aligned a (d i) ≡ true ⌝ }
+    ensures { λ r. ⌜ r ≡ x.onStore (x.viewWith event (now (b .entry)) select window) i w causes (x.storedFrom (registersOf (now (b .entry))) i w a) (allThere (d i) (length (now (m .entry))) a) ⌝ }
+{
+    if !is_there(a, interrupts::width(i), m.len()) {
+        return refused(7);
+    }
+    if 8 <= records::count_stores(b) {
+        return refused(8);
+    }
+    if b[layout::FREE_HEAD] == 0 {
+        return refused(10);
+    }
+    let s = stored(b, i, w, a);
+    finish::finished(
+        i,
+        w,
+        0,
+        causes,
+        event,
+        BufferChange::Put(s),
+        WalkChange::Nothing,
+        Write::Nothing,
+    )
+}
+
+// What a cas writes that has read a word.
+fn exchanged(b: &[u32], w: u32, read: u32, a: u32) -> Write
+    requires { ⌜ length (now b) ≡ 256 ⌝ }
+    ensures { λ r. ⌜ r ≡ x.exchanged (registersOf (now (b .entry))) w read a ⌝ }
+{
+    if read == block::general(b, fields::rd(w)) {
+        return Write::Memory(a, 4, block::general(b, fields::rt(w)));
+    }
+    Write::Nothing
+}
+
+fn cas(
+    event: Found,
+    b: &[u32],
+    select: u32,
+    window: u32,
+    m: &[u8],
+    i: Instruction,
+    w: u32,
+    causes: u32,
+    a: u32,
+) -> Plan
+    requires { ⌜ length (now b) ≡ 256 ⌝ }
+    requires { ⌜ aligned a 4 ≡ true ⌝ }
+    ensures { λ r. ⌜ r ≡ x.onCas (x.viewWith event (now (b .entry)) select window) i w causes a (reads 4 (memoryByte (now (m .entry))) a) ⌝ }
+{
+    let r = store_buffer::read_memory(m, a, 4);
+    match r {
+        Read::There(v) => {
+            let write = exchanged(b, w, v, a);
+            finish::finished(
+                i,
+                w,
+                v,
+                causes,
+                event,
+                BufferChange::Nothing,
+                WalkChange::Nothing,
+                write,
+            )
+        }
+        Read::Nowhere => refused(7),
+    }
+}
+
+// A load, store or cas at a physical address.
+fn performed(
+    event: Found,
+    b: &[u32],
+    select: u32,
+    window: u32,
+    m: &[u8],
+    i: Instruction,
+    w: u32,
+    causes: u32,
+    a: u32,
+) -> Plan
+    requires { ⌜ length (now b) ≡ 256 ⌝ }
+    requires { ⌜ soundRecords (length (now m)) (now b) ≡ true ⌝ }
+    requires { ⌜ length (now m) % 4 ≡ 0 ⌝ }
+    requires { ⌜ x.isAccess i ≡ true ⌝ }
+    requires { ⌜ aligned a (d i) ≡ true ⌝ }
+    ensures { λ r. ⌜ r ≡ x.performed (x.viewWith event (now (b .entry)) select window) (now (m .entry)) i w causes a ⌝ }
+{
+    if classes::is_load(i) {
+        return load(event, b, select, window, m, i, w, causes, a);
+    }
+    if classes::is_store(i) {
+        return store(event, b, select, window, m, i, w, causes, a);
+    }
+    cas(event, b, select, window, m, i, w, causes, a)
+}
+
+// Whether an instruction may access no port.
+fn avoids_ports(i: Instruction) -> bool
+    ensures { λ r. ⌜ r ≡ x.avoidsPorts i ⌝ }
+{
+    classes::is_cas(i) | !(interrupts::width(i) == 4)
+}
+
+// Whether a load has a hazard.
+fn has_hazard(b: &[u32], i: Instruction, a: u32) -> bool
+    requires { ⌜ length (now b) ≡ 256 ⌝ }
+    requires { ⌜ linked (now b) ≡ true ⌝ }
+    ensures { λ r. ⌜ r ≡ x.hasHazard (stores (now (b .entry))) i a ⌝ }
+{
+    if classes::is_load(i) {
+        return store_buffer::hazard(b, a, interrupts::width(i));
+    }
+    false
+}
+
+// A load, store or cas that does not fault, at its physical address.
+fn at_address(
+    event: Found,
+    b: &[u32],
+    select: u32,
+    window: u32,
+    m: &[u8],
+    i: Instruction,
+    w: u32,
+    a: u32,
+) -> Plan
+    requires { ⌜ length (now b) ≡ 256 ⌝ }
+    requires { ⌜ soundRecords (length (now m)) (now b) ≡ true ⌝ }
+    requires { ⌜ length (now m) % 4 ≡ 0 ⌝ }
+    requires { ⌜ x.isAccess i ≡ true ⌝ }
+    requires { ⌜ a % 4 ≡ ea i (registersOf (now b)) w % 4 ⌝ }
+    ensures { λ r. ⌜ r ≡ settle p.refused (x.onAddress (x.viewWith event (now (b .entry)) select window) (now (m .entry)) i w a) ⌝ }
+{
+    if avoids_ports(i) & store_buffer::is_port(a) {
+        return refused(6);
+    }
+    let ca = causes::of(b, event, i, w, false);
+    if causes::suppress(ca) {
+        if has_hazard(b, i, a) {
+            return refused(6);
+        }
+        return finish::stopped(w, ca, event, WalkChange::Nothing);
+    }
+    performed(event, b, select, window, m, i, w, ca, a)
+}
+
+// A load, store or cas that does not fault, by the walk that was used.
+fn passed(
+    event: Found,
+    b: &[u32],
+    select: u32,
+    window: u32,
+    m: &[u8],
+    walk: Walk,
+    i: Instruction,
+    w: u32,
+) -> Plan
+    requires { ⌜ length (now b) ≡ 256 ⌝ }
+    requires { ⌜ soundRecords (length (now m)) (now b) ≡ true ⌝ }
+    requires { ⌜ length (now m) % 4 ≡ 0 ⌝ }
+    requires { ⌜ x.isAccess i ≡ true ⌝ }
+    requires { ⌜ (not (user (registersOf (now b))) || ltb (walk .second) (2 ^ 20)) ≡ true ⌝ }
+    ensures { λ r. ⌜ r ≡ settle p.refused (x.onData (x.viewWith event (now (b .entry)) select window) (now (m .entry)) walk i w verdict.Passes) ⌝ }
+{
+    let user = block::user(b);
+    if !translation::ends(user, walk) {
+        return refused(6);
+    }
+    let a = translation::physical(user, walk, causes::address(b, i, w));
+    at_address(event, b, select, window, m, i, w, a)
+}
+
+fn data_request(b: &[u32], i: Instruction, w: u32) -> Request
+    requires { ⌜ length (now b) ≡ 256 ⌝ }
+    ensures { λ r. ⌜ r ≡ x.dataRequestOf (registersOf (now (b .entry))) i w ⌝ }
+{
+    let asid = block::asid(b);
+    let va = causes::address(b, i, w);
+    if classes::is_store(i) | classes::is_cas(i) {
+        return Request {
+            asid,
+            va,
+            r: tlb::STORE,
+        };
+    }
+    Request {
+        asid,
+        va,
+        r: tlb::LOAD,
+    }
+}
+
+// A load, store or cas by the data walk.
+fn access(
+    event: Found,
+    b: &[u32],
+    select: u32,
+    window: u32,
+    m: &[u8],
+    walk: Walk,
+    i: Instruction,
+    w: u32,
+) -> Plan
+    requires { ⌜ length (now b) ≡ 256 ⌝ }
+    requires { ⌜ soundRecords (length (now m)) (now b) ≡ true ⌝ }
+    requires { ⌜ length (now m) % 4 ≡ 0 ⌝ }
+    requires { ⌜ x.isAccess i ≡ true ⌝ }
+    ensures { λ r. ⌜ r ≡ settle p.refused (x.onAccess (x.viewWith event (now (b .entry)) select window) (now (m .entry)) walk i w) ⌝ }
+{
+    let user = block::user(b);
+    let t = data_request(b, i, w);
+    if !translation::fits(b, user, t, walk) {
+        return refused(6);
+    }
+    let f = translation::fault(m, user, t, walk);
+    match f {
+        Verdict::Passes => passed(event, b, select, window, m, walk, i, w),
+        Verdict::Faults => {
+            let ca = causes::of(b, event, i, w, true);
+            finish::stopped(w, ca, event, translation::faulted(b, t.va))
+        }
+        Verdict::Undecided => refused(7),
+    }
+}
+
+// The walks that flush and invlpg drop.
+fn dropped(b: &[u32], i: Instruction, w: u32) -> WalkChange
+    requires { ⌜ length (now b) ≡ 256 ⌝ }
+    ensures { λ r. ⌜ r ≡ x.droppedBy (registersOf (now (b .entry))) i w ⌝ }
+{
+    if classes::is_flush(i) {
+        return WalkChange::Drop(Flush::All);
+    }
+    if classes::is_invlpg(i) {
+        let va = tlb::page(block::general(b, fields::rd(w)));
+        let asid = block::general(b, fields::rs(w)) % 64;
+        return WalkChange::Drop(Flush::Incomplete(tlb::page_key(va, asid)));
+    }
+    WalkChange::Nothing
+}
+
+// An instruction that accesses no memory.
+fn plain(event: Found, b: &[u32], select: u32, window: u32, i: Instruction, w: u32) -> Plan
+    requires { ⌜ length (now b) ≡ 256 ⌝ }
+    ensures { λ r. ⌜ r ≡ x.withoutAccess (x.viewWith event (now (b .entry)) select window) i w ⌝ }
+{
+    let ca = causes::of(b, event, i, w, false);
+    if causes::suppress(ca) {
+        return finish::stopped(w, ca, event, WalkChange::Nothing);
+    }
+    let walks = dropped(b, i, w);
+    finish::finished(
+        i,
+        w,
+        0,
+        ca,
+        event,
+        BufferChange::Nothing,
+        walks,
+        Write::Nothing,
+    )
+}
+
+// Whether an instruction finds the buffer as it asks.
+fn finds_buffer(b: &[u32], i: Instruction) -> bool
+    requires { ⌜ length (now b) ≡ 256 ⌝ }
+    requires { ⌜ linked (now b) ≡ true ⌝ }
+    ensures { λ r. ⌜ r ≡ x.findsBuffer (stores (now (b .entry))) i ⌝ }
+{
+    if classes::is_cas(i) | classes::is_mfence(i) {
+        return records::count_stores(b) == 0;
+    }
+    true
+}
+
+fn is_access(i: Instruction) -> bool
+    ensures { λ r. ⌜ r ≡ x.isAccess i ⌝ }
+{
+    classes::is_load(i) | (classes::is_store(i) | classes::is_cas(i))
+}
+
+// An instruction that was fetched.
+pub fn instruction(
+    event: Found,
+    b: &[u32],
+    select: u32,
+    window: u32,
+    m: &[u8],
+    walk: Walk,
+    i: Instruction,
+    w: u32,
+) -> Plan
+    requires { ⌜ length (now b) ≡ 256 ⌝ }
+    requires { ⌜ soundRecords (length (now m)) (now b) ≡ true ⌝ }
+    requires { ⌜ length (now m) % 4 ≡ 0 ⌝ }
+    ensures { λ r. ⌜ r ≡ settle p.refused (x.onInstruction (x.viewWith event (now (b .entry)) select window) (now (m .entry)) walk i w) ⌝ }
+{
+    if !finds_buffer(b, i) {
+        return refused(6);
+    }
+    if is_access(i) {
+        return access(event, b, select, window, m, walk, i, w);
+    }
+    plain(event, b, select, window, i, w)
+}

@@ -1,0 +1,47 @@
+// What a core's block shows of its registers, read where it stands.
+ghost use mathlib.Core.Path.{_≡_};
+ghost use Prim.Native.Nat.{_<_, _^_};
+ghost use lib.ListN.{length};
+ghost use Rattle.isa.specs.Core.{gprAt, sprAt};
+ghost use Rattle.isa.specs.Interrupts as s;
+ghost use Rattle.tables.specs.Views.{registersOf};
+ghost use Rattle.cores.specs.Core as x;
+
+pub fn general(b: &[u32], n: u32) -> u32
+    requires { ⌜ length (now b) ≡ 256 ⌝ }
+    requires { ⌜ n < 32 ⌝ }
+    ensures { λ r. ⌜ r ≡ gprAt (registersOf (now (b .entry))) n ⌝ }
+{
+    b[n as usize]
+}
+
+pub fn special(b: &[u32], n: usize) -> u32
+    requires { ⌜ length (now b) ≡ 256 ⌝ }
+    requires { ⌜ n < 32 ⌝ }
+    ensures { λ r. ⌜ r ≡ sprAt (registersOf (now (b .entry))) n ⌝ }
+{
+    b[layout::SPR + n]
+}
+
+pub fn pc(b: &[u32]) -> u32
+    requires { ⌜ length (now b) ≡ 256 ⌝ }
+    ensures { λ r. ⌜ r ≡ registersOf (now (b .entry)) .pc ⌝ }
+{
+    b[layout::PC]
+}
+
+// User mode.
+pub fn user(b: &[u32]) -> bool
+    requires { ⌜ length (now b) ≡ 256 ⌝ }
+    ensures { λ r. ⌜ r ≡ s.user (registersOf (now (b .entry))) ⌝ }
+{
+    special(b, layout::MODE) % 2 == 1
+}
+
+// The address space.
+pub fn asid(b: &[u32]) -> u32
+    requires { ⌜ length (now b) ≡ 256 ⌝ }
+    ensures { λ r. ⌜ (r ≡ x.asidOf (registersOf (now (b .entry)))) × (r < 2 ^ 6) ⌝ }
+{
+    special(b, layout::ASID) % 64
+}
