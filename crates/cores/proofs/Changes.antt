@@ -37,7 +37,7 @@ use Rattle.cores.specs.Commit.{coreAfter, bufferAfter, walksAfter, buffe
 
 -- ---- 32 registers of each kind
 
-abbrev Full : Registers → Type 0
+abbrev pub Full : Registers → Type 0
 Full r = (length (r .gpr) ≡ 32) × (length (r .spr) ≡ 32)
 
 if-length : (t : Bool) (l m : List ℕ) (n : ℕ) → length l ≡ n → length m ≡ n → length (if t then l else m) ≡ n
@@ -47,16 +47,16 @@ if-length false l m n p q = q
 put-length : (l : List ℕ) (x v n : ℕ) → length l ≡ n → length (putAt l x v) ≡ n
 put-length l x v n p = if-length (eqb x 0) l (set l x v) n p (length-set l x v ∙ p)
 
-effect-full : (i : Instruction) (c : Registers) (w R : ℕ) → Full c → Full (effect i c w R)
+pub effect-full : (i : Instruction) (c : Registers) (w R : ℕ) → Full c → Full (effect i c w R)
 effect-full i c w R f =
     (if-length (gprw i) _ (c .gpr) 32 (put-length (c .gpr) (cad i w) (gprdin i c w R) 32 (f .0)) (f .0), if-length (movg2s i) _ (c .spr) 32 (length-set (c .spr) (rd w) (gprAt c (rt w)) ∙ f .1) (f .1))
 
-jisr-full : (c : Registers) (w R ca k : ℕ) → Full c → Full (deltaJisr c w R ca k)
+pub jisr-full : (c : Registers) (w R ca k : ℕ) → Full c → Full (deltaJisr c w R ca k)
 unfolding deltaJisr deltaInstr
 jisr-full c w R ca k f =
     (if-length (continues (il ca)) (deltaInstr c w R .gpr) (c .gpr) 32 (effect-full (decoded w) c w R f .0) (f .0), simp (length-set) (f .1))
 
-rfe-full : (c : Registers) → Full c → Full (deltaRfe c)
+pub rfe-full : (c : Registers) → Full c → Full (deltaRfe c)
 unfolding deltaRfe
 rfe-full c f = (f .0, simp (length-set) (f .1))
 

@@ -7,3 +7,7 @@ pub mod Adding
 pub mod Written
 pub mod Changes
 pub mod Doing
+pub mod Sounds
+pub mod Decisions
+pub mod Executions
+pub mod Locals
