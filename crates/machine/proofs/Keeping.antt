@@ -1,0 +1,403 @@
+-- Sound tables stay sound under every step, and keep their length; memory keeps its length; a refusal moves nothing but its count.
+-- Assumes nothing.
+use mathlib.Core.Path.{_≡_, refl, sym, _∙_, ap, subst}
+use mathlib.Core.Logic.{inl, inr}
+use mathlib.Core.Bool.{Bool, true, false}
+use mathlib.Core.List.{List}
+use Prim.Native.Nat.{ℕ, zero, suc, _+_, _-_, _*_, _/_, _%_, _^_, _<_, _≤_}
+use lib.ListN.{length, getD, set, length-set}
+use lib.Seq.{getD-set-other}
+use lib.Arith.{digits-lt}
+use lib.Pow.{pow-pos, pow-add, shr-lt}
+use lib.Dec.{eqb, ltb}
+use native.Mathlib.Nat.{mod-lt, pow-suc}
+use native.Mathlib.Omega.{arith}
+use borrow.Author.Tests.{ltb-true}
+use Rattle.word.specs.Word.{if_then_else_}
+use Rattle.word.proofs.Bytes.{Bytes}
+use Rattle.word.proofs.Tests.{true-false}
+use Rattle.layout.specs.Layout as at
+use Rattle.layout.specs.Blocks.{block}
+use Rattle.layout.proofs.Blocks.{with-long, with-header}
+use Rattle.records.proofs.Counts.{and-left, and-right}
+use Rattle.records.proofs.Frame.{Alike, same-sound}
+use Rattle.tables.specs.Views.{coresOf, linesOf, ioregselOf, iowinOf, refusalsOf}
+use Rattle.tables.specs.Sound.{soundBlock, sound}
+use Rattle.tables.proofs.Parts.{words-of, records-of, of-parts}
+use Rattle.tables.proofs.Places.{words-facts, facts-words}
+use Rattle.tables.proofs.Lift.{header, core-fits, core-long, core-sound, with-sound, set-header-sound, set-lines-sound}
+use Rattle.apic.specs.declared.vectors.Found.{Found}
+use Rattle.apic.specs.declared.vectors.Found.the-variants.{Vector, None}
+use Rattle.apic.specs.declared.active.Ipi.{Ipi}
+use Rattle.apic.specs.declared.active.Sending.{Sending}
+use Rattle.apic.specs.declared.active.Sending.the-variants as sent
+use Rattle.apic.specs.Vectors.{withBit, isVector}
+use Rattle.apic.specs.LocalApic.{idOf, fixed, irr}
+use Rattle.apic.specs.Active.{sending, pendingEoi, idle, reached, eoiSent, mayInit, mayStart, initCore, startCore}
+use Rattle.apic.proofs.Kept.{Words, Kept, Passive, Reset, kept-all, kept-if, kept-vector, kept-idle, kept-reached, kept-initCore, kept-startCore}
+use Rattle.apic.proofs.Least.{lowest-vector}
+use Rattle.apic.proofs.Sendings.{sending-vect}
+use Rattle.ioapic.specs.Blocks.{onBlock, onBlocks}
+use Rattle.ioapic.specs.IoApic.{entry, withEntry, dest, vect, rirr, ds, onEntries, acknowledged, ended, sampled, handed, maySample, mayDeliver}
+use Rattle.ioapic.specs.Bus.{broadcast, sendIpi, sendEoi, deliver}
+use Rattle.ioapic.proofs.Blocks.{block-words}
+use Rattle.steps.specs.declared.Answer.{Answer}
+use Rattle.steps.specs.declared.Answer.the-variants as answer
+use Rattle.steps.specs.declared.Step.{Step}
+use Rattle.steps.specs.declared.Step.the-variants as kind
+use Rattle.steps.specs.Form.{stepOf}
+use Rattle.cores.specs.declared.Plan.{Plan}
+use Rattle.cores.specs.Commit as cores
+use Rattle.cores.proofs.Decisions.{MayBeDone, create-plan, extend-plan, accessed-plan, drain-plan}
+use Rattle.cores.proofs.Executions.{core-plan}
+use Rattle.cores.proofs.Locals.{tables-long, tables-local, written-long, plan-long, plan-sound}
+use Rattle.machine.specs.declared.action.Action.{Action}
+use Rattle.machine.specs.declared.action.Action.the-variants.{Refused, Planned, SendIpi, SendEoi, InitCore, StartCore, Sample, Deliver, SetLine}
+use Rattle.machine.specs.Actions.{lineSet, answerOf, tablesAfter, memoryAfter}
+use Rattle.machine.specs.Decide.{ifAllowed, toSend, toEnd, byStep, decided}
+use Rattle.machine.specs.Step.{counted, after, taken, step}
+use Rattle.machine.proofs.Forms.{formed, step-formed}
+use Rattle.machine.proofs.Fitting.{quarters, has}
+
+-- ---- what keeps tables sound
+
+-- beside a memory of n bytes the tables u are sound, and have as many words and cores as t
+pub record Keeps (n : ℕ) (t u : List ℕ) : Type 0 where
+  pub long : length u ≡ length t
+  pub cores : coresOf u ≡ coresOf t
+  pub is-sound : sound u n ≡ true
+
+keeps-then : {n : ℕ} {t u v : List ℕ} → Keeps n t u → Keeps n u v → Keeps n t v
+keeps-then p q = record { long = q .long ∙ p .long; cores = q .cores ∙ p .cores; is-sound = q .is-sound }
+
+-- a block of which these words stay, and the rest within their ranges: general register 0, the heads, the zeros and the records
+kept-sound : (P : ℕ → Type 0) → P 0 → ((i : ℕ) → 68 ≤ i → i ≤ 71 → P i) → ((i : ℕ) → 114 < i → P i) →
+    (n : ℕ) (b c : List ℕ) → Kept P b c → soundBlock n b ≡ true → soundBlock n c ≡ true
+kept-sound P zero-in heads-in rest-in n b c K e =
+    let W = words-facts b (words-of n b e) in
+    let A : Alike b c = record { heads = λ i p q. K .same i (heads-in i p (omega arith)); records = λ i p. K .same i (rest-in i (omega arith)) } in
+    of-parts n c
+    (facts-words c
+    (record {
+      zero-register = K .same 0 zero-in ∙ W .zero-register;
+      gap = K .same 71 (heads-in 71 (omega arith) (omega arith)) ∙ W .gap;
+      rest = λ i p q. K .same i (rest-in i (omega arith)) ∙ W .rest i p q;
+      running = omega (arith, K .running-flag (omega (arith, W .running)));
+      sipirr = omega (arith, K .sipirr-flag (omega (arith, W .sipirr)));
+      initrr = omega (arith, K .initrr-flag (omega (arith, W .initrr)));
+      vector = K .sipivect-small (W .vector);
+    }))
+    (same-sound A n ∙ records-of n b e)
+
+-- a function that keeps a block's length and leaves it sound, beside a memory of n bytes
+record BlockKeeps (n : ℕ) (f : List ℕ → List ℕ) : Type 0 where
+  pub as-long : (b : List ℕ) → length (f b) ≡ length b
+  pub as-sound : (b : List ℕ) → soundBlock n b ≡ true → soundBlock n (f b) ≡ true
+
+-- a step of the local APIC's own words
+passive : (n : ℕ) (f : List ℕ → List ℕ) → ((b : List ℕ) → Kept Passive b (f b)) → BlockKeeps n f
+passive n f K =
+    record {
+      as-long = λ b. K b .long;
+      as-sound = λ b. kept-sound Passive (inl (omega arith)) (λ i p q. inl (omega arith)) (λ i p. inr p) n b (f b) (K b);
+    }
+
+-- initCore and startCore
+reset : (n : ℕ) (f : List ℕ → List ℕ) → ((b : List ℕ) → Kept Reset b (f b)) → BlockKeeps n f
+reset n f K =
+    record {
+      as-long = λ b. K b .long;
+      as-sound = λ b. kept-sound Reset (inl (omega arith)) (λ i p q. inr (inl (omega arith, omega arith))) (λ i p. inr (inr p)) n b (f b) (K b);
+    }
+
+module _ (n : ℕ) where
+  -- the tables themselves
+  keeps-all : (t : List ℕ) → sound t n ≡ true → Keeps n t t
+  keeps-all t e = record { long = refl; cores = refl; is-sound = e }
+
+  -- at the block of one core
+  on-block : (f : List ℕ → List ℕ) → BlockKeeps n f → (t : List ℕ) → sound t n ≡ true → (k : ℕ) → k < coresOf t → Keeps n t (onBlock f k t)
+  on-block f B t e k h =
+      let fits = core-fits t n e k h in
+      let long : length (f (block t k)) ≡ 256 = B .as-long (block t k) ∙ core-long t n e k h in
+      record {
+        long = with-long t k (f (block t k)) fits long;
+        cores = with-header t k (f (block t k)) fits long at.cores (omega arith);
+        is-sound = with-sound t n e k (f (block t k)) h long (B .as-sound (block t k) (core-sound t n e k h));
+      }
+
+  -- at the block of each of the first c
+  on-blocks : (f : ℕ → List ℕ → List ℕ) → ((j : ℕ) → BlockKeeps n (f j)) → (t : List ℕ) → sound t n ≡ true → (c : ℕ) → c ≤ coresOf t → Keeps n t (onBlocks f c t)
+  unfolding onBlocks
+  on-blocks f B t e zero h = keeps-all t e
+  on-blocks f B t e (suc c) h =
+      let K = on-blocks f B t e c (omega arith) in
+      keeps-then K (on-block (f c) (B c) (onBlocks f c t) (K .is-sound) c (omega (arith, K .cores)))
+
+  -- a redirect entry
+  with-entry : (t : List ℕ) (i v : ℕ) → sound t n ≡ true → i < 24 → Keeps n t (withEntry t i v)
+  with-entry t i v e h =
+      record {
+        long = length-set t (at.redirect + i) v;
+        cores = getD-set-other t (at.redirect + i) at.cores v 0 (omega arith);
+        is-sound = set-header-sound t n e (at.redirect + i) v (inr (omega arith, omega arith));
+      }
+
+  on-entries : (f : ℕ → ℕ) (t : List ℕ) → sound t n ≡ true → (c : ℕ) → c ≤ 24 → Keeps n t (onEntries f c t)
+  unfolding onEntries
+  on-entries f t e zero h = keeps-all t e
+  on-entries f t e (suc c) h =
+      let K = on-entries f t e c (omega arith) in
+      keeps-then K (with-entry (onEntries f c t) c (f (entry (onEntries f c t) c)) (K .is-sound) (omega arith))
+
+-- ---- a bit put into a number below a power of two
+
+module _ (j w i x : ℕ) (hw : w < 2 ^ j) (hi : i < j) (hx : x < 2) where
+  split-at : j - i + i ≡ j
+  split-at = omega arith
+
+  half : 2 ^ (j - i) ≡ 2 ^ (j - suc i) * 2
+  half = let e : j - i ≡ suc (j - suc i) = omega arith in ap (λ (n : ℕ). 2 ^ n) e ∙ pow-suc 2 (j - suc i)
+
+  above-lt : w / 2 ^ i / 2 * 2 + x < 2 ^ (j - i)
+  above-lt =
+      let q : w / 2 ^ i < 2 ^ (j - i) = shr-lt (j - i) i (subst (λ (n : ℕ). w < 2 ^ n) (sym split-at) hw) in
+      omega (arith, half)
+
+  pub bit-below : withBit w i x < 2 ^ j
+  unfolding withBit
+  bit-below =
+      subst (λ (n : ℕ). (w / 2 ^ i / 2 * 2 + x) * 2 ^ i + w % 2 ^ i < n) (sym (pow-add 2 (j - i) i) ∙ ap (λ (n : ℕ). 2 ^ n) split-at)
+      (digits-lt above-lt (mod-lt w (pow-pos i)))
+
+-- ---- action by action
+
+module _ (t : List ℕ) (n : ℕ) (e : sound t n ≡ true) where
+  pub ipi-keeps : (k : ℕ) (i : Ipi) → k < coresOf t → i .vect < 256 → Keeps n t (sendIpi (coresOf t) k i t)
+  unfolding sendIpi broadcast
+  ipi-keeps k i h v =
+      let K = on-block n idle (passive n idle kept-idle) t e k h in
+      keeps-then K
+      (on-blocks n (λ (j : ℕ) (b : List ℕ). reached i (eqb j k) b) (λ j. passive n (reached i (eqb j k)) (λ b. kept-reached b i (eqb j k) v)) (onBlock idle k t) (K .is-sound) (coresOf t) (omega (arith, K .cores)))
+
+  pub eoi-keeps : (k v : ℕ) → k < coresOf t → v < 256 → Keeps n t (sendEoi k v t)
+  unfolding sendEoi ended
+  eoi-keeps k v h l =
+      let f : List ℕ → List ℕ = λ b. eoiSent b v in
+      let K = on-block n f (passive n f (λ b. kept-vector b at.eoipending v 0 (omega arith) (omega arith) l (omega arith))) t e k h in
+      keeps-then K (on-entries n (acknowledged v) (onBlock f k t) (K .is-sound) 24 (omega arith))
+
+  pub init-keeps : (k : ℕ) → k < coresOf t → Keeps n t (onBlock initCore k t)
+  init-keeps k h = on-block n initCore (reset n initCore kept-initCore) t e k h
+
+  pub start-keeps : (k : ℕ) → k < coresOf t → Keeps n t (onBlock startCore k t)
+  start-keeps k h = on-block n startCore (reset n startCore kept-startCore) t e k h
+
+  pub sample-keeps : (l : ℕ) → l < 24 → Keeps n t (sampled t l)
+  unfolding sampled
+  sample-keeps l h = with-entry n t l (withBit (entry t l) ds 1) e h
+
+  pub deliver-keeps : (l : ℕ) → l < 24 → Keeps n t (deliver (coresOf t) l t)
+  unfolding deliver handed
+  deliver-keeps l h =
+      let u : List ℕ = handed t l in
+      let f : List ℕ → List ℕ = λ b. if eqb (idOf b) (dest (entry t l)) then fixed b (vect (entry t l)) else b in
+      let K : Keeps n t u = with-entry n t l (withBit (withBit (entry t l) ds 0) rirr 1) e h in
+      keeps-then K
+      (on-blocks n (λ (j : ℕ). f)
+      (λ j. passive n f
+      (λ b. kept-if Passive (eqb (idOf b) (dest (entry t l))) (kept-vector b irr (vect (entry t l)) 1 (omega arith) (omega arith) (omega arith) (omega arith)) (kept-all Passive b)))
+      u (K .is-sound) (coresOf t) (omega (arith, K .cores)))
+
+  pub line-keeps : (l v : ℕ) → l < 24 → v < 2 → Keeps n t (lineSet t l v)
+  line-keeps l v h hv =
+      let w : ℕ = withBit (linesOf t) l v in
+      record {
+        long = length-set t at.lines w;
+        cores = getD-set-other t at.lines at.cores w 0 (omega arith);
+        is-sound = set-lines-sound t n e w (bit-below 24 (linesOf t) l v (header t n e .few-lines) h hv);
+      }
+
+  -- the refusal count
+  pub counted-keeps : Keeps n t (counted t)
+  unfolding counted
+  counted-keeps = go (ltb (refusalsOf t) (2 ^ 32 - 1))
+    where
+      go : (b : Bool) → Keeps n t (if b then set t at.refusals (refusalsOf t + 1) else t)
+      go true =
+          record {
+            long = length-set t at.refusals (refusalsOf t + 1);
+            cores = getD-set-other t at.refusals at.cores (refusalsOf t + 1) 0 (omega arith);
+            is-sound = set-header-sound t n e at.refusals (refusalsOf t + 1) (inl refl);
+          }
+      go false = keeps-all n t e
+
+  pub counted-sound : sound (counted t) n ≡ true
+  counted-sound = counted-keeps .is-sound
+
+-- ---- memory keeps its length
+
+pub memory-long : (a : Action) (m : List ℕ) → length (memoryAfter a m) ≡ length m
+unfolding memoryAfter
+memory-long (Refused n) m = refl
+memory-long (Planned k p) m = written-long (p .write) m
+memory-long (SendIpi k i) m = refl
+memory-long (SendEoi k v) m = refl
+memory-long (InitCore k) m = refl
+memory-long (StartCore k) m = refl
+memory-long (Sample l) m = refl
+memory-long (Deliver l) m = refl
+memory-long (SetLine l v) m = refl
+
+-- ---- the action that is decided
+
+module _ (t m : List ℕ) (e : sound t (length m) ≡ true) where
+  abbrev Fine : Action → Type 0
+  Fine a = Keeps (length m) t (tablesAfter a t)
+
+  refused-fine : (n : ℕ) → Fine (Refused n)
+  unfolding tablesAfter
+  refused-fine n = keeps-all (length m) t e
+
+  by-if : (b : Bool) (a : Action) → Fine a → Fine (ifAllowed b a)
+  by-if true a p = p
+  by-if false a p = refused-fine 6
+
+  plan-fine : (k : ℕ) (p : Plan) → ltb k (coresOf t) ≡ true → MayBeDone (length m) (block t k) p → Fine (Planned k p)
+  unfolding tablesAfter
+  plan-fine k p h D =
+      let l = ltb-true k (coresOf t) h in
+      let fits = core-fits t (length m) e k l in
+      let long = plan-long t m k p e l D in
+      record {
+        long = tables-long k p t fits long;
+        cores = tables-local k p t fits long at.cores (inl (omega arith)) (inl (omega arith));
+        is-sound = subst (λ (n : ℕ). sound (cores.tablesAfter k p t) n ≡ true) (written-long (p .write) m) (plan-sound t m k p e l D);
+      }
+
+  send-fine : (k : ℕ) (s : Sending) → ltb k (coresOf t) ≡ true → sending (block t k) ≡ s → Fine (toSend k s)
+  unfolding tablesAfter
+  send-fine k (sent.Send i) h q = ipi-keeps t (length m) e k i (ltb-true k (coresOf t) h) (sending-vect (block t k) i q)
+  send-fine k sent.Refused h q = refused-fine 6
+
+  end-fine : (k : ℕ) (f : Found) → ltb k (coresOf t) ≡ true → isVector f ≡ true → Fine (toEnd k f)
+  unfolding tablesAfter
+  end-fine k (Vector v) h q = eoi-keeps t (length m) e k v (ltb-true k (coresOf t) h) (ltb-true v 256 q)
+  end-fine k None h q = refused-fine 6
+
+  module _ (ws : Words t) (bs : Bytes m) where
+    pub action-keeps : (x : Step) → formed (coresOf t) x ≡ true → Keeps (length m) t (tablesAfter (byStep t m x) t)
+    unfolding byStep tablesAfter
+    action-keeps (kind.Core k wI wR) f = plan-fine k _ f (core-plan (block t k) m (ioregselOf t) (iowinOf t) wI wR (quarters t (length m) e))
+    action-keeps (kind.TlbCreate k va) f =
+        let g = and-left (ltb k (coresOf t)) _ f in
+        plan-fine k _ g (create-plan (block t k) m va (block-words t k (has t (length m) e k g) ws (at.spr + at.pto)))
+    action-keeps (kind.TlbExtend k w) f = plan-fine k _ f (extend-plan (block t k) m w (core-sound t (length m) e k (ltb-true k (coresOf t) f)) bs)
+    action-keeps (kind.TlbAccessed k w) f = plan-fine k _ f (accessed-plan (block t k) m w)
+    action-keeps (kind.StoreBuffer k) f = plan-fine k _ f (drain-plan (length m) (block t k) (core-sound t (length m) e k (ltb-true k (coresOf t) f)))
+    action-keeps (kind.SendIpi k) f = send-fine k (sending (block t k)) f refl
+    action-keeps (kind.SendEoi k) f = end-fine k (pendingEoi (block t k)) f (lowest-vector (block t k) _ refl)
+    action-keeps (kind.InitCore k) f = by-if (mayInit (block t k)) (InitCore k) (init-keeps t (length m) e k (ltb-true k (coresOf t) f))
+    action-keeps (kind.StartCore k) f = by-if (mayStart (block t k)) (StartCore k) (start-keeps t (length m) e k (ltb-true k (coresOf t) f))
+    action-keeps (kind.Sample l) f = by-if (maySample t l) (Sample l) (sample-keeps t (length m) e l (ltb-true l 24 f))
+    action-keeps (kind.Deliver l) f = by-if (mayDeliver t l) (Deliver l) (deliver-keeps t (length m) e l (ltb-true l 24 f))
+    action-keeps (kind.SetLine l v) f =
+        line-keeps t (length m) e l v (ltb-true l 24 (and-left (ltb l 24) _ f)) (ltb-true v 2 (and-right (ltb l 24) _ f))
+    action-keeps kind.NotAStep f = refused-fine 5
+
+    pub decided-keeps : (s : List ℕ) → Keeps (length m) t (tablesAfter (decided t m s) t)
+    unfolding decided
+    decided-keeps s = action-keeps (stepOf (coresOf t) s) (step-formed (coresOf t) s)
+
+    -- the action that is decided leaves sound tables beside the memory after it
+    pub action-sound : (s : List ℕ) → sound (tablesAfter (decided t m s) t) (length (memoryAfter (decided t m s) m)) ≡ true
+    action-sound s =
+        ap (λ (n : ℕ). sound (tablesAfter (decided t m s) t) n) (memory-long (decided t m s) m) ∙ decided-keeps s .is-sound
+
+-- ---- a step
+
+after-long : (r : Answer) (a : Action) (t m : List ℕ) → length (after r a t m .memory) ≡ length m
+unfolding after
+after-long (answer.Refused n) a t m = refl
+after-long answer.Done a t m = memory-long a m
+after-long (answer.Interrupt l) a t m = memory-long a m
+
+after-keeps : (n : ℕ) (r : Answer) (a : Action) (t m : List ℕ) → sound t n ≡ true → Keeps n t (tablesAfter a t) → Keeps n t (after r a t m .tables)
+unfolding after
+after-keeps n (answer.Refused x) a t m e K = counted-keeps t n e
+after-keeps n answer.Done a t m e K = K
+after-keeps n (answer.Interrupt l) a t m e K = K
+
+-- memory, whatever the tables are
+pub step-long : (t m s : List ℕ) → length (step t m s .memory) ≡ length m
+unfolding step taken
+step-long t m s = go (sound t (length m))
+  where
+    go : (b : Bool) → length ((if b then taken t m s else record { answer = answer.Refused 4; tables = t; memory = m }) .memory) ≡ length m
+    go true = after-long (answerOf (decided t m s)) (decided t m s) t m
+    go false = refl
+
+pub step-keeps : (t m s : List ℕ) → sound t (length m) ≡ true → Words t → Bytes m → Keeps (length m) t (step t m s .tables)
+unfolding step taken
+step-keeps t m s e ws bs =
+    rw e (after-keeps (length m) (answerOf (decided t m s)) (decided t m s) t m e (decided-keeps t m e ws bs s))
+
+pub step-sound : (t m s : List ℕ) → sound t (length m) ≡ true → Words t → Bytes m → sound (step t m s .tables) (length (step t m s .memory)) ≡ true
+step-sound t m s e ws bs = ap (sound (step t m s .tables)) (step-long t m s) ∙ step-keeps t m s e ws bs .is-sound
+
+-- the tables, sound or not
+pub step-tables-long : (t m s : List ℕ) → Words t → Bytes m → length (step t m s .tables) ≡ length t
+unfolding step
+step-tables-long t m s ws bs = go (sound t (length m)) refl
+  where
+    go : (b : Bool) → sound t (length m) ≡ b → length (step t m s .tables) ≡ length t
+    go true e = step-keeps t m s e ws bs .long
+    go false e = rw e refl
+
+-- ---- a refused step
+
+-- u is t but for the refusal count
+pub record CountOnly (t u : List ℕ) : Type 0 where
+  pub long : length u ≡ length t
+  pub same : (i : ℕ) → (i ≡ at.refusals → ⊥) → getD u i 0 ≡ getD t i 0
+
+pub counted-only : (t : List ℕ) → CountOnly t (counted t)
+unfolding counted
+counted-only t = go (ltb (refusalsOf t) (2 ^ 32 - 1))
+  where
+    go : (b : Bool) → CountOnly t (if b then set t at.refusals (refusalsOf t + 1) else t)
+    go true =
+        record {
+          long = length-set t at.refusals (refusalsOf t + 1);
+          same = λ i d. getD-set-other t at.refusals i (refusalsOf t + 1) 0 d;
+        }
+    go false = record { long = refl; same = λ i d. refl }
+
+abbrev isRefused : Answer → Bool
+isRefused answer.Done = false
+isRefused (answer.Interrupt l) = false
+isRefused (answer.Refused n) = true
+
+after-refused : (r : Answer) (a : Action) (t m : List ℕ) (n : ℕ) → after r a t m .answer ≡ answer.Refused n → (after r a t m .memory ≡ m) × CountOnly t (after r a t m .tables)
+unfolding after
+after-refused (answer.Refused x) a t m n e = (refl, counted-only t)
+after-refused answer.Done a t m n e = absurd (true-false (sym (ap isRefused e)))
+after-refused (answer.Interrupt l) a t m n e = absurd (true-false (sym (ap isRefused e)))
+
+-- memory stays, and the tables but for the count, on sound tables and on others
+pub refused-count : (t m s : List ℕ) (n : ℕ) → step t m s .answer ≡ answer.Refused n → (step t m s .memory ≡ m) × CountOnly t (step t m s .tables)
+unfolding step taken
+refused-count t m s n = go (sound t (length m))
+  where
+    go : (b : Bool) →
+        (if b then taken t m s else record { answer = answer.Refused 4; tables = t; memory = m }) .answer ≡ answer.Refused n →
+        ((if b then taken t m s else record { answer = answer.Refused 4; tables = t; memory = m }) .memory ≡ m) × CountOnly t ((if b then taken t m s else record { answer = answer.Refused 4; tables = t; memory = m }) .tables)
+    go true e = after-refused (answerOf (decided t m s)) (decided t m s) t m n e
+    go false e = (refl, record { long = refl; same = λ i d. refl })
+
+pub refused-leaves : (t m s : List ℕ) (n : ℕ) → step t m s .answer ≡ answer.Refused n →
+    (step t m s .memory ≡ m) × ((i : ℕ) → (i ≡ at.refusals → ⊥) → getD (step t m s .tables) i 0 ≡ getD t i 0)
+refused-leaves t m s n e = let R = refused-count t m s n e in (R .0, R .1 .same)
+
+pub refused-long : (t m s : List ℕ) (n : ℕ) → step t m s .answer ≡ answer.Refused n → length (step t m s .tables) ≡ length t
+refused-long t m s n e = refused-count t m s n e .1 .long

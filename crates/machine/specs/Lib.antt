@@ -1,0 +1,4 @@
+pub mod Actions
+pub mod Decide
+pub mod Step
+pub mod Run

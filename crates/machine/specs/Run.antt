@@ -1,0 +1,66 @@
+-- The operation Run (01): single steps one after the other, up to the end, the limit or a refusal.
+-- Assumes nothing.
+use mathlib.Core.Bool.{Bool, true, false, not, _||_}
+use mathlib.Core.Path.{_≡_}
+use mathlib.Core.List.{List}
+use Prim.Native.Nat.{ℕ, zero, suc, _+_, _/_, _%_}
+use lib.Dec.{eqb, ltb}
+use lib.ListN.{length, take, drop}
+use Rattle.word.specs.Word.{if_then_else_}
+use Rattle.tables.specs.Sound.{sound}
+use Rattle.steps.specs.declared.Answer.{Answer}
+use Rattle.steps.specs.declared.Answer.the-variants.{Done, Interrupt, Refused}
+use Rattle.machine.specs.declared.run.Ran.{Ran}
+use Rattle.machine.specs.declared.run.Stop.{Stop}
+use Rattle.machine.specs.declared.run.Stop.the-variants as stop
+use Rattle.machine.specs.Step.{Stepped, step}
+
+-- how many steps were accepted, why it stopped, and the machine after it
+pub record Result : Type 0 where
+  pub accepted : ℕ
+  pub why : Stop
+  pub tables : List ℕ
+  pub memory : List ℕ
+
+abbrev pub stopped : ℕ → Stop → List ℕ → List ℕ → Result
+stopped n w t m = record { accepted = n; why = w; tables = t; memory = m }
+
+-- a refusal ends the run
+abbrev pub isAccepted : Answer → Bool
+isAccepted (Refused x) = false
+isAccepted Done = true
+isAccepted (Interrupt l) = true
+
+abbrev pub stopOf : Answer → Stop
+stopOf (Refused x) = stop.Refused x
+stopOf Done = stop.End
+stopOf (Interrupt l) = stop.End
+
+-- the rest follows any other answer
+abbrev pub onStep : Stepped → ℕ → Result → Result
+onStep r n rest = if isAccepted (r .answer) then rest else stopped n (stopOf (r .answer)) (r .tables) (r .memory)
+
+-- k steps are left in the schedule s, and n were accepted; the end is looked at before the limit
+unfoldable pub runFrom : ℕ → List ℕ → ℕ → ℕ → List ℕ → List ℕ → Result
+runFrom zero s limit n t m = stopped n stop.End t m
+runFrom (suc k) s limit n t m =
+    if eqb n limit then stopped n stop.Limit t m
+    else onStep (step t m (take 6 s)) n
+    (runFrom k (drop 6 s) limit (n + 1) (step t m (take 6 s) .tables) (step t m (take 6 s) .memory))
+
+-- a schedule has whole steps, at most 1,024
+abbrev pub whole : List ℕ → Bool
+whole s = not (not (eqb (length s % 6) 0) || ltb 6144 (length s))
+
+unfoldable pub run : List ℕ → List ℕ → List ℕ → ℕ → Result
+run t m s limit =
+    if not (sound t (length m)) then stopped 0 (stop.Refused 4) t m
+    else if not (whole s) then stopped 0 (stop.Refused 11) t m
+    else runFrom (length s / 6) s limit 0 t m
+
+-- what the operation answers and leaves is a result
+pub record Is (r : Ran) (t m : List ℕ) (x : Result) : Type 0 where
+  pub same-accepted : r .accepted ≡ x .accepted
+  pub same-why : r .stop ≡ x .why
+  pub same-tables : t ≡ x .tables
+  pub same-memory : m ≡ x .memory

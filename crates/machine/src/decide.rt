@@ -1,0 +1,153 @@
+// What a step decides on sound tables.
+use super::action::Action;
+use apic::active;
+use apic::active::Sending;
+use apic::vectors::Found;
+use cores::buffer;
+use cores::fetch;
+use ioapic::ports;
+use records::Walk;
+use steps::Step;
+ghost use mathlib.Core.Path.{_≡_};
+ghost use mathlib.Core.Bool.{true};
+ghost use Prim.Native.Nat.{_+_, _*_, _<_, _≤_, _%_};
+ghost use lib.ListN.{length};
+ghost use lib.ListN.{getD};
+ghost use Prim.Native.Nat.{_^_};
+ghost use Rattle.layout.specs.Blocks.{block};
+ghost use Rattle.records.specs.Records.{linked, stores, walks};
+ghost use Rattle.records.specs.Contents.{soundRecords};
+ghost use Rattle.tables.specs.Sound.{sound};
+ghost use Rattle.tables.specs.Views.{ioregselOf, iowinOf};
+ghost use Rattle.tlb.specs.Steps as tlb;
+ghost use Rattle.apic.specs.Active as a;
+ghost use Rattle.cores.specs.Core as c;
+ghost use Rattle.cores.specs.Buffer as y;
+ghost use Rattle.machine.specs.Decide as x;
+
+fn core(t: &[u32], m: &[u8], k: u32, fetch: Walk, second: Walk) -> Action
+    requires { ⌜ 32 + 256 * k + 256 ≤ length (now t) ⌝ }
+    requires { ⌜ soundRecords (length (now m)) (block (now t) k) ≡ true ⌝ }
+    requires { ⌜ length (now m) % 4 ≡ 0 ⌝ }
+    ensures { λ r. ⌜ r ≡ Action.Planned k (c.coreStep (c.viewOf (block (now (t .entry)) k) (ioregselOf (now (t .entry))) (iowinOf (now (t .entry)))) (now (m .entry)) fetch second) ⌝ }
+{
+    let a = layout::HEADER_WORDS + layout::BLOCK_WORDS * (k as usize);
+    let e = a + layout::BLOCK_WORDS;
+    let select = t[layout::IOREGSEL];
+    let window = t[layout::IOWIN];
+    Action::Planned(k, fetch::decide(&t[a..e], select, window, m, fetch, second))
+}
+
+fn create(t: &[u32], k: u32, va: u32) -> Action
+    requires { ⌜ 32 + 256 * k + 256 ≤ length (now t) ⌝ }
+    requires { ⌜ linked (block (now t) k) ≡ true ⌝ }
+    requires { ⌜ va < 2 ^ 20 ⌝ }
+    ensures { λ r. ⌜ r ≡ x.plannedOn k (block (now (t .entry)) k) (tlb.createOn (block (now (t .entry)) k) va) ⌝ }
+{
+    let a = layout::HEADER_WORDS + layout::BLOCK_WORDS * (k as usize);
+    let e = a + layout::BLOCK_WORDS;
+    Action::Planned(k, buffer::create(&t[a..e], va))
+}
+
+fn extend(t: &[u32], m: &[u8], k: u32, w: Walk) -> Action
+    requires { ⌜ 32 + 256 * k + 256 ≤ length (now t) ⌝ }
+    requires { ⌜ linked (block (now t) k) ≡ true ⌝ }
+    ensures { λ r. ⌜ r ≡ x.plannedOn k (block (now (t .entry)) k) (tlb.extendOn (block (now (t .entry)) k) (now (m .entry)) w) ⌝ }
+{
+    let a = layout::HEADER_WORDS + layout::BLOCK_WORDS * (k as usize);
+    let e = a + layout::BLOCK_WORDS;
+    Action::Planned(k, buffer::extend(&t[a..e], m, w))
+}
+
+fn accessed(t: &[u32], m: &[u8], k: u32, w: Walk) -> Action
+    requires { ⌜ 32 + 256 * k + 256 ≤ length (now t) ⌝ }
+    requires { ⌜ linked (block (now t) k) ≡ true ⌝ }
+    ensures { λ r. ⌜ r ≡ x.plannedOn k (block (now (t .entry)) k) (tlb.accessedOn (block (now (t .entry)) k) (now (m .entry)) w) ⌝ }
+{
+    let a = layout::HEADER_WORDS + layout::BLOCK_WORDS * (k as usize);
+    let e = a + layout::BLOCK_WORDS;
+    Action::Planned(k, buffer::accessed(&t[a..e], m, w))
+}
+
+fn drain(t: &[u32], bytes: usize, k: u32) -> Action
+    requires { ⌜ 32 + 256 * k + 256 ≤ length (now t) ⌝ }
+    requires { ⌜ linked (block (now t) k) ≡ true ⌝ }
+    ensures { λ r. ⌜ r ≡ Action.Planned k (y.bufferStep (stores (block (now (t .entry)) k)) bytes) ⌝ }
+{
+    let a = layout::HEADER_WORDS + layout::BLOCK_WORDS * (k as usize);
+    let e = a + layout::BLOCK_WORDS;
+    Action::Planned(k, buffer::drain(&t[a..e], bytes))
+}
+
+fn send_ipi(t: &[u32], k: u32) -> Action
+    requires { ⌜ 32 + 256 * k + 256 ≤ length (now t) ⌝ }
+    ensures { λ r. ⌜ r ≡ x.toSend k (a.sending (block (now (t .entry)) k)) ⌝ }
+{
+    let a = layout::HEADER_WORDS + layout::BLOCK_WORDS * (k as usize);
+    let e = a + layout::BLOCK_WORDS;
+    let s = active::to_send(&t[a..e]);
+    match s {
+        Sending::Send(i) => Action::SendIpi(k, i),
+        Sending::Refused => Action::Refused(6),
+    }
+}
+
+fn send_eoi(t: &[u32], k: u32) -> Action
+    requires { ⌜ 32 + 256 * k + 256 ≤ length (now t) ⌝ }
+    ensures { λ r. ⌜ r ≡ x.toEnd k (a.pendingEoi (block (now (t .entry)) k)) ⌝ }
+{
+    let a = layout::HEADER_WORDS + layout::BLOCK_WORDS * (k as usize);
+    let e = a + layout::BLOCK_WORDS;
+    let f = active::pending_eoi(&t[a..e]);
+    match f {
+        Found::Vector(v) => Action::SendEoi(k, v),
+        Found::None => Action::Refused(6),
+    }
+}
+
+fn if_allowed(allowed: bool, a: Action) -> Action
+    ensures { λ r. ⌜ r ≡ x.ifAllowed allowed a ⌝ }
+{
+    if allowed { a } else { Action::Refused(6) }
+}
+
+fn init_core(t: &[u32], k: u32) -> Action
+    requires { ⌜ 32 + 256 * k + 256 ≤ length (now t) ⌝ }
+    ensures { λ r. ⌜ r ≡ x.ifAllowed (a.mayInit (block (now (t .entry)) k)) (Action.InitCore k) ⌝ }
+{
+    let a = layout::HEADER_WORDS + layout::BLOCK_WORDS * (k as usize);
+    let e = a + layout::BLOCK_WORDS;
+    if_allowed(active::may_init(&t[a..e]), Action::InitCore(k))
+}
+
+fn start_core(t: &[u32], k: u32) -> Action
+    requires { ⌜ 32 + 256 * k + 256 ≤ length (now t) ⌝ }
+    ensures { λ r. ⌜ r ≡ x.ifAllowed (a.mayStart (block (now (t .entry)) k)) (Action.StartCore k) ⌝ }
+{
+    let a = layout::HEADER_WORDS + layout::BLOCK_WORDS * (k as usize);
+    let e = a + layout::BLOCK_WORDS;
+    if_allowed(active::may_start(&t[a..e]), Action::StartCore(k))
+}
+
+// A step as its words say it.
+pub fn decide(t: &[u32], m: &[u8], s: &[u32]) -> Action
+    requires { ⌜ sound (now t) (length (now m)) ≡ true ⌝ }
+    ensures { λ r. ⌜ r ≡ x.decided (now (t .entry)) (now (m .entry)) (now (s .entry)) ⌝ }
+{
+    let p = steps::parse(t[layout::CORES], s);
+    match p {
+        Step::Core(k, fetch, second) => core(t, m, k, fetch, second),
+        Step::TlbCreate(k, va) => create(t, k, va),
+        Step::TlbExtend(k, w) => extend(t, m, k, w),
+        Step::TlbAccessed(k, w) => accessed(t, m, k, w),
+        Step::StoreBuffer(k) => drain(t, m.len(), k),
+        Step::SendIpi(k) => send_ipi(t, k),
+        Step::SendEoi(k) => send_eoi(t, k),
+        Step::InitCore(k) => init_core(t, k),
+        Step::StartCore(k) => start_core(t, k),
+        Step::Sample(l) => if_allowed(ports::may_sample(t, l as usize), Action::Sample(l)),
+        Step::Deliver(l) => if_allowed(ports::may_deliver(t, l as usize), Action::Deliver(l)),
+        Step::SetLine(l, level) => Action::SetLine(l, level),
+        Step::NotAStep => Action::Refused(5),
+    }
+}
