@@ -4,6 +4,7 @@ use super::words;
 use layout::HEADER_REST;
 use layout::LINES;
 use layout::REFUSALS;
+use machine::run::Ran;
 ghost use mathlib.Core.Path.{_≡_};
 ghost use Prim.Native.Nat.{_≤_};
 ghost use lib.ListN.{length};
@@ -27,17 +28,21 @@ fn schedule(s: &mut [u32]) {
     }
 }
 
+fn answer_of(t: &mut [u32], m: &mut [u8], s: &[u32], limit: u32) -> Ran {
+    machine::run::run(t, m, s, limit)
+}
+
 // A run on a machine as made, with so many words of the schedule.
 fn run(t: &mut [u32], m: &mut [u8], s: &[u32], words: usize, limit: u32)
     requires { ⌜ words ≤ length (now s) ⌝ }
 {
-    tables::make::make(t, m, 1);
+    words::fresh(t, m);
     rows::text(b"run of ");
     io::print_decimal(1, words as u64);
     rows::text(b" words, limit ");
     rows::number(limit);
     rows::text(b": ");
-    rows::ran(machine::run::run(t, m, &s[..words], limit));
+    rows::ran(answer_of(t, m, &s[..words], limit));
     rows::text(b"\n");
 }
 
@@ -64,7 +69,7 @@ fn lengths(t: &mut [u32], m: &mut [u8], s: &[u32])
 
 // A run on the machine as it stands: its answer, and what it left of the lines and of the count of refusals.
 fn show(t: &mut [u32], m: &mut [u8], before: &[u8], s: &[u32]) {
-    let r = machine::run::run(t, m, s, 3);
+    let r = answer_of(t, m, s, 3);
     rows::text(before);
     rows::ran(r);
     rows::text(b"; lines and refusals counted ");
@@ -76,14 +81,14 @@ fn show(t: &mut [u32], m: &mut [u8], before: &[u8], s: &[u32]) {
 
 // A run stops at a refused step, which is counted, and the steps before it stay.
 fn stopped(t: &mut [u32], m: &mut [u8]) {
-    tables::make::make(t, m, 1);
+    words::fresh(t, m);
     let s = [11, 3, 1, 0, 0, 0, 4, 0, 0, 0, 0, 0, 11, 4, 1, 0, 0, 0];
     show(t, m, b"run with an empty store buffer's step: ", &s);
 }
 
 // On tables that are not sound 4 comes before 11.
 fn unsound(t: &mut [u32], m: &mut [u8]) {
-    tables::make::make(t, m, 1);
+    words::fresh(t, m);
     words::set(t, HEADER_REST, 1);
     let s = [11, 3, 1, 0, 0, 0, 0];
     show(t, m, b"run on unsound tables: ", &s);

@@ -22,10 +22,14 @@ const NO_KIND: u32 = 15;
 // sw r0 256(r0)
 const STORE: u32 = 0xAC00_0100;
 
+fn answer_of(t: &mut [u32], m: &mut [u8], s: &[u32]) -> Answer {
+    machine::step(t, m, s)
+}
+
 // A step of a kind, with two more words and the rest zero.
 fn take(t: &mut [u32], m: &mut [u8], kind: u32, at: u32, w: u32) -> Answer {
     let s = [kind, at, w, 0, 0, 0];
-    machine::step(t, m, &s)
+    answer_of(t, m, &s)
 }
 
 // A memory full of stores.
@@ -67,7 +71,7 @@ fn show_count(t: &[u32], before: &[u8]) {
 
 // Eight stores pending: a ninth is refused 8, and accepted after one store buffer step.
 fn stores(t: &mut [u32], m: &mut [u8]) {
-    tables::make::make(t, m, 1);
+    words::fresh(t, m);
     put_stores(m);
     rows::text(b"stores: ");
     until_refused(t, m, CORE);
@@ -78,7 +82,7 @@ fn stores(t: &mut [u32], m: &mut [u8]) {
 
 // With 23 walks held a new one is refused 9, and one already held is not. Walks are made in user mode.
 fn walks(t: &mut [u32], m: &mut [u8]) {
-    tables::make::make(t, m, 1);
+    words::fresh(t, m);
     words::set(t, HEADER_WORDS + SPR + MODE, 1);
     rows::text(b"walks: ");
     until_refused(t, m, TLB_CREATE);
@@ -89,7 +93,7 @@ fn walks(t: &mut [u32], m: &mut [u8]) {
 
 // The run program's own example.
 fn example(t: &mut [u32], m: &mut [u8]) {
-    tables::make::make(t, m, 1);
+    words::fresh(t, m);
     show(t, m, b"example: ", SET_LINE, 3, 1);
     show(t, m, b", ", STORE_BUFFER, 0, 0);
     show(t, m, b", ", NO_KIND, 0, 0);
@@ -99,13 +103,13 @@ fn example(t: &mut [u32], m: &mut [u8]) {
 
 // A step is six words, no fewer and no more.
 fn lengths(t: &mut [u32], m: &mut [u8]) {
-    tables::make::make(t, m, 1);
+    words::fresh(t, m);
     let five = [SET_LINE, 3, 1, 0, 0];
     let seven = [SET_LINE, 3, 1, 0, 0, 0, 0];
     rows::text(b"five words: ");
-    rows::answer(machine::step(t, m, &five));
+    rows::answer(answer_of(t, m, &five));
     rows::text(b"; seven words: ");
-    rows::answer(machine::step(t, m, &seven));
+    rows::answer(answer_of(t, m, &seven));
     show_count(t, b"; refusals counted ");
     rows::text(b"\n");
 }
@@ -118,7 +122,7 @@ fn refuse(t: &mut [u32], m: &mut [u8]) {
 
 // The count of refusals stays at its largest.
 fn counted(t: &mut [u32], m: &mut [u8]) {
-    tables::make::make(t, m, 1);
+    words::fresh(t, m);
     words::set(t, REFUSALS, 0xFFFF_FFFE);
     show_count(t, b"refusals counted: ");
     refuse(t, m);
@@ -128,7 +132,7 @@ fn counted(t: &mut [u32], m: &mut [u8]) {
 
 // Tables that are not sound, whatever the step: refused 4, and not counted.
 fn unsound(t: &mut [u32], m: &mut [u8]) {
-    tables::make::make(t, m, 1);
+    words::fresh(t, m);
     words::set(t, HEADER_REST, 1);
     show(t, m, b"not sound: ", SET_LINE, 3, 1);
     show(t, m, b", ", NO_KIND, 0, 0);

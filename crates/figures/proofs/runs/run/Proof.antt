@@ -4,8 +4,8 @@ use borrow.Author.Needs.{needs}
 use Rattle.figures.proofs.runs.run.Statement.{statement}
 use Rattle.figures.proofs.runs.run.Tie as tie
 
-make-requires : tie.Need-make-requires
-make-requires c κs = search needs
+fresh-requires : tie.Need-fresh-requires
+fresh-requires c κs = search needs
 
 slice-aggregate-text : tie.Need-slice-aggregate-text
 slice-aggregate-text c = search needs
@@ -31,11 +31,11 @@ slice-aggregate-text-3 c = search needs
 text-requires-3 : tie.Need-text-requires-3
 text-requires-3 c κs = search needs
 
-slice-aggregate-run : tie.Need-slice-aggregate-run
-slice-aggregate-run c = sym (length-take-le _ _ (search needs))
+slice-aggregate-answer-of : tie.Need-slice-aggregate-answer-of
+slice-aggregate-answer-of c = sym (length-take-le _ _ (search needs))
 
-run-requires : tie.Need-run-requires
-run-requires c κs = search needs
+answer-of-requires : tie.Need-answer-of-requires
+answer-of-requires c κs = search needs
 
 ran-requires : tie.Need-ran-requires
 ran-requires c κs = search needs
@@ -59,7 +59,7 @@ pub run-spec : {M : Type 1} → statement M
 run-spec =
     tie.close
     (tie.spec
-    make-requires
+    fresh-requires
     slice-aggregate-text
     text-requires
     print-decimal-requires
@@ -68,8 +68,8 @@ run-spec =
     number-requires
     slice-aggregate-text-3
     text-requires-3
-    slice-aggregate-run
-    run-requires
+    slice-aggregate-answer-of
+    answer-of-requires
     ran-requires
     slice-aggregate-text-4
     text-requires-4
