@@ -1,0 +1,110 @@
+// Replays the vectors of the independent simulator (oracle/README.md says how they stand in the file) through machine::step and machine::run, and
+// compares each answer and each check sum. Standard input is a copy of oracle/vectors/steps.bin. Prints a line for each difference, and the counts of answers,
+// by number and by the kind of step: those that oracle/README.md prints.
+mod input;
+mod replay;
+mod report;
+
+use input::Vector;
+ghost use mathlib.Core.Path.{_≡_};
+ghost use Prim.Native.Nat.{_≤_};
+ghost use lib.ListN.{length};
+
+// 'M86S', low byte first.
+const STEPS_FILE: u32 = 0x5336_384D;
+
+// What was read of a vector is replayed twice: its steps one by one on the machine, and its run on a copy of the machine.
+fn compare(
+    v: u32,
+    t: &mut [u32],
+    m: &mut [u8],
+    t2: &mut [u32],
+    m2: &mut [u8],
+    s: &[u32],
+    answers: &[u32],
+    sums: &[u32],
+    r: Vector,
+    tally: &mut [u32],
+)
+    requires { ⌜ (length (now t) ≡ 1056) × (length (now m) ≡ 32768) × (length (now t2) ≡ 1056) × (length (now m2) ≡ 32768) ⌝ }
+    requires { ⌜ (length (now s) ≡ 600) × (length (now answers) ≡ 100) × (length (now sums) ≡ 100) ⌝ }
+    requires { ⌜ (r .words ≤ 1056) × (r .bytes ≤ 32768) × (r .steps ≤ 100) × (r .run .words ≤ 600) ⌝ }
+{
+    replay::copy_words(t, t2);
+    replay::copy_bytes(m, m2);
+    replay::one_by_one(v, t, m, s, answers, sums, r, tally);
+    replay::all_at_once(v, t2, m2, s, r, tally);
+}
+
+// One vector, in the room lent. Answers whether it has the form of a vector.
+fn vector_in(
+    v: u32,
+    t: &mut [u32],
+    m: &mut [u8],
+    t2: &mut [u32],
+    m2: &mut [u8],
+    s: &mut [u32],
+    answers: &mut [u32],
+    sums: &mut [u32],
+    tally: &mut [u32],
+) -> bool
+    requires { ⌜ (length (now t) ≡ 1056) × (length (now m) ≡ 32768) × (length (now t2) ≡ 1056) × (length (now m2) ≡ 32768) ⌝ }
+    requires { ⌜ (length (now s) ≡ 600) × (length (now answers) ≡ 100) × (length (now sums) ≡ 100) ⌝ }
+{
+    let r = input::read(t, m, s, answers, sums);
+    if !r.fits {
+        return false;
+    }
+    compare(v, t, m, t2, m2, s, answers, sums, r, tally);
+    true
+}
+
+fn vector(v: u32, tally: &mut [u32]) -> bool {
+    let mut t = [0u32; 1056];
+    let mut m = [0u8; 32768];
+    let mut t2 = [0u32; 1056];
+    let mut m2 = [0u8; 32768];
+    let mut s = [0u32; 600];
+    let mut answers = [0u32; 100];
+    let mut sums = [0u32; 100];
+    vector_in(
+        v,
+        &mut t,
+        &mut m,
+        &mut t2,
+        &mut m2,
+        &mut s,
+        &mut answers,
+        &mut sums,
+        tally,
+    )
+}
+
+// All vectors, up to one that has not the form of a vector.
+fn vectors(n: u32, tally: &mut [u32]) {
+    let mut v: u32 = 0;
+    while v < n {
+        if !vector(v, tally) {
+            report::text(b"no vector: ");
+            report::number(v);
+            report::text(b"\n");
+            return;
+        }
+        v += 1;
+    }
+}
+
+fn main() {
+    let mark = input::number(4);
+    let version = input::number(4);
+    if (mark != STEPS_FILE) | (version != 1) {
+        report::text(b"no file of steps\n");
+        return;
+    }
+    let n = input::number(4);
+    // The seed that the file was made from.
+    input::number(4);
+    let mut tally = [0u32; 80];
+    vectors(n, &mut tally);
+    report::all(&tally);
+}

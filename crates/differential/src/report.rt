@@ -1,0 +1,151 @@
+// What is counted, and the lines that are printed.
+use libc::STDOUT_FILENO;
+use machine::run::Stop;
+use steps::Answer;
+ghost use Prim.Native.Nat.{_≤_};
+
+// The places of the tally. Refusals and levels are at the place and their number.
+pub const DIFFERENCES: usize = 0;
+
+pub const VECTORS: usize = 1;
+
+pub const STEPS: usize = 2;
+
+pub const DONE: usize = 3;
+
+pub const INTERRUPTS: usize = 4;
+
+pub const REFUSALS: usize = 12;
+
+pub const ACCEPTED_KINDS: usize = 32;
+
+pub const REFUSED_KINDS: usize = 48;
+
+pub const RUN_END: usize = 64;
+
+pub const RUN_LIMIT: usize = 65;
+
+pub const RUN_REFUSALS: usize = 66;
+
+pub const TALLY: usize = 80;
+
+// One more at a place.
+pub fn count(tally: &mut [u32], place: usize) {
+    if place < tally.len() {
+        tally[place] = word::add(tally[place], 1);
+    }
+}
+
+fn counted(tally: &[u32], place: usize) -> u32 {
+    if place < tally.len() { tally[place] } else { 0 }
+}
+
+pub fn text(t: &[u8]) {
+    io::write_all(STDOUT_FILENO, t);
+}
+
+pub fn number(n: u32) {
+    io::print_decimal(STDOUT_FILENO, n as u64);
+}
+
+// A difference: its vector, what differs, the step, what came out and what was expected.
+fn difference(tally: &mut [u32], v: u32, what: &[u8], j: u32, found: u32, expected: u32) {
+    count(tally, DIFFERENCES);
+    text(b"vector ");
+    number(v);
+    text(what);
+    number(j);
+    text(b": ");
+    number(found);
+    text(b", expected ");
+    number(expected);
+    text(b"\n");
+}
+
+pub fn compare(tally: &mut [u32], v: u32, what: &[u8], j: u32, found: u32, expected: u32) {
+    if found != expected {
+        difference(tally, v, what, j, found, expected);
+    }
+}
+
+// The answer of a step of a kind.
+pub fn answer(tally: &mut [u32], kind: usize, a: Answer)
+    requires { ⌜ kind ≤ 12 ⌝ }
+{
+    count(tally, STEPS);
+    match a {
+        Answer::Done => {
+            count(tally, DONE);
+            count(tally, ACCEPTED_KINDS + kind);
+        }
+        Answer::Interrupt(level) => {
+            count(tally, INTERRUPTS + numbered(level));
+            count(tally, ACCEPTED_KINDS + kind);
+        }
+        Answer::Refused(number) => {
+            count(tally, REFUSALS + numbered(number));
+            count(tally, REFUSED_KINDS + kind);
+        }
+    }
+}
+
+// A level or a refusal as a place: none is over 13.
+fn numbered(n: u32) -> usize
+    ensures { λ r. ⌜ r ≤ 13 ⌝ }
+{
+    if n < 13 { n as usize } else { 13 }
+}
+
+pub fn stop(tally: &mut [u32], s: Stop) {
+    match s {
+        Stop::End => count(tally, RUN_END),
+        Stop::Limit => count(tally, RUN_LIMIT),
+        Stop::Refused(number) => count(tally, RUN_REFUSALS + numbered(number)),
+    }
+}
+
+// ---- the lines at the end
+
+fn row(name: &[u8], n: u32) {
+    text(name);
+    number(n);
+    text(b"\n");
+}
+
+// The numbers of a part of the tally, each with a name and its number.
+fn rows(name: &[u8], tally: &[u32], place: usize, from: u32, to: u32)
+    requires { ⌜ (place ≤ 80) × (to ≤ 16) ⌝ }
+{
+    let mut n = from;
+    while n < to {
+        text(name);
+        number(n);
+        row(b" ", counted(tally, place + n as usize));
+        n += 1;
+    }
+}
+
+fn kinds(tally: &[u32]) {
+    let mut n: u32 = 0;
+    while n < 13 {
+        text(b"kind ");
+        number(n);
+        text(b" accepted ");
+        number(counted(tally, ACCEPTED_KINDS + n as usize));
+        row(b" refused ", counted(tally, REFUSED_KINDS + n as usize));
+        n += 1;
+    }
+}
+
+pub fn all(tally: &[u32]) {
+    row(b"vectors ", counted(tally, VECTORS));
+    row(b"steps ", counted(tally, STEPS));
+    row(b"done ", counted(tally, DONE));
+    rows(b"interrupt ", tally, INTERRUPTS, 0, 8);
+    rows(b"refused ", tally, REFUSALS, 4, 12);
+    kinds(tally);
+    row(b"run end ", counted(tally, RUN_END));
+    row(b"run limit ", counted(tally, RUN_LIMIT));
+    rows(b"run refused ", tally, RUN_REFUSALS, 4, 12);
+    row(b"differences ", counted(tally, DIFFERENCES));
+}

@@ -1,0 +1,51 @@
+use mathlib.Core.Path.{_≡_}
+use Prim.Native.Nat.{_-_, _/_, _≤_}
+use lib.ListN.{length}
+use borrow.Author.Needs.{needs}
+use Rattle.figures.proofs.single.put_stores.Statement.{statement}
+use Rattle.figures.proofs.single.put_stores.Tie as tie
+
+abbrev Inv-loop : tie.InvT-loop
+Inv-loop m₀ i₀ m i = (length m ≡ length m₀) × (i ≤ length m₀ / 4)
+
+abbrev μ-loop : tie.MeasureT-loop
+μ-loop m₀ i₀ m i = length m₀ / 4 - i
+
+loop-holds : tie.Need-loop-holds Inv-loop μ-loop
+loop-holds c = search needs
+
+mul-write-word : tie.Need-mul-write-word Inv-loop μ-loop
+mul-write-word c = search needs
+
+write-word-requires : tie.Need-write-word-requires Inv-loop μ-loop
+write-word-requires c κs = search needs
+
+add-i : tie.Need-add-i Inv-loop μ-loop
+add-i c = search needs
+
+loop-less : tie.Need-loop-less Inv-loop μ-loop
+loop-less c = search needs
+
+loop-again : tie.Need-loop-again Inv-loop μ-loop
+loop-again c = search needs
+
+same-length : tie.Need-same-length Inv-loop μ-loop
+same-length c = search needs
+
+returns : tie.Need-returns Inv-loop μ-loop
+returns c = search needs
+
+pub put-stores-spec : {M : Type 1} → statement M
+put-stores-spec =
+    tie.close
+    (tie.spec
+    Inv-loop
+    μ-loop
+    loop-holds
+    mul-write-word
+    write-word-requires
+    add-i
+    loop-less
+    loop-again
+    same-length
+    returns)

@@ -1,0 +1,52 @@
+// What stands in a row.
+use libc::STDOUT_FILENO;
+use machine::run::Ran;
+use machine::run::Stop;
+use steps::Answer;
+
+pub fn text(t: &[u8]) {
+    io::write_all(STDOUT_FILENO, t);
+}
+
+pub fn number(n: u32) {
+    io::print_decimal(STDOUT_FILENO, n as u64);
+}
+
+pub fn answer(a: Answer) {
+    match a {
+        Answer::Done => {
+            text(b"done");
+        }
+        Answer::Interrupt(level) => {
+            text(b"interrupt ");
+            number(level);
+        }
+        Answer::Refused(n) => {
+            text(b"refused ");
+            number(n);
+        }
+    }
+}
+
+fn stop(s: Stop) {
+    match s {
+        Stop::End => {
+            text(b"end");
+        }
+        Stop::Limit => {
+            text(b"limit");
+        }
+        Stop::Refused(n) => {
+            text(b"refused ");
+            number(n);
+        }
+    }
+}
+
+// What a run answered.
+pub fn ran(r: Ran) {
+    number(r.accepted);
+    text(b" accepted, ");
+    let s = r.stop;
+    stop(s);
+}

@@ -1,0 +1,81 @@
+-- Laws of texts in a buffer: one byte more, one text after another, and the digits of a number.
+-- Assumes nothing.
+use mathlib.Core.Path.{_≡_, refl, sym, ap, _∙_, subst}
+use mathlib.Core.Bool.{Bool}
+use mathlib.Core.Logic.{⊎-elim}
+use mathlib.Core.List.{List, [], _∷_, _++_, append-assoc, append-nil}
+use Prim.Native.Nat.{ℕ, zero, suc, _+_, _-_, _*_, _/_, _%_, _^_, _≤_, _<_}
+use native.Mathlib.Nat.{mod-eq-of-lt, pow-suc, one-le-pow, pow-le-pow-right}
+use native.Mathlib.Numerals.{add-one}
+use native.Mathlib.Omega.{arith}
+use lib.ListN.{length, take, drop, getD, set, length-append, length-set}
+use lib.Seq.{take-suc, take-suc-set, length-take-le, take-all}
+use lib.Dec.{ltb}
+use borrow.Author.Tests.{lt-ltb, le-ltb}
+use Rattle.io.specs.Counts.{Counts}
+use Rattle.io.specs.Digits.{digits, glyph, Fewest}
+use Rattle.word.specs.Word.{if_then_else_}
+use Rattle.word.proofs.Laws.{side}
+use Rattle.simulate.specs.Text.{Put, decimalIn, decimal}
+
+pub none : (b : List ℕ) (at : ℕ) → Put b at [] (at + 0) b
+none b at = record { place = refl; kept = refl; front = let e : at + 0 ≡ at = omega arith in rw e (sym (append-nil (take at b))) }
+
+-- the next byte of a text
+pub one-more :
+    (b : List ℕ) (at : ℕ) (t : List ℕ) (i : ℕ) (c : List ℕ) → Put b at (take i t) (at + i) c → i < length t → at + i < length c
+    → Put b at (take (i + 1) t) (at + (i + 1)) (set c (at + i) (getD t i 0))
+one-more b at t i c p h k =
+    record {
+      place = omega (arith, length-take-le (i + 1) t (omega arith));
+      kept = length-set c (at + i) (getD t i 0) ∙ p .kept;
+      front =
+          let e : at + (i + 1) ≡ suc (at + i) = omega arith in
+          rw (e, take-suc-set c (at + i) (getD t i 0) k, p .front, append-assoc, add-one i, take-suc t i 0 h);
+    }
+
+-- all bytes of a text
+pub whole : (b : List ℕ) (at : ℕ) (t : List ℕ) (i r : ℕ) (c : List ℕ) → Put b at (take i t) r c → length t ≤ i → Put b at t r c
+whole b at t i r c p h = subst (λ (l : List ℕ). Put b at l r c) (take-all i t h) p
+
+-- a text and then another
+pub follow : {b : List ℕ} {at : ℕ} {x : List ℕ} {r : ℕ} {c : List ℕ} {y : List ℕ} {q : ℕ} {d : List ℕ} → Put b at x r c → Put c r y q d → Put b at (x ++ y) q d
+follow {b} {at} {x} {r} {c} {y} {q} {d} p s =
+    record {
+      place = omega (arith, length-append x y, p .place, s .place);
+      kept = s .kept ∙ p .kept;
+      front = s .front ∙ ap (λ (l : List ℕ). l ++ y) (p .front) ∙ append-assoc (take at b) x y;
+    }
+
+-- the fewest digits of a number are its decimal text
+pub spelled : (f k n : ℕ) → k ≤ f → Fewest 10 1 n k → digits 10 k n ≡ decimalIn f n
+unfolding decimalIn
+spelled f zero n h (l, s, g) = absurd (omega arith)
+spelled zero (suc k) n h w = absurd (omega arith)
+spelled (suc f) (suc zero) n h (l, s, g) =
+    let t : n < 10 = s in
+    ap (λ (x : ℕ). glyph x ∷ []) (mod-eq-of-lt {n = n} {m = 10} t)
+    ∙ sym (ap (λ (b : Bool). if b then glyph n ∷ [] else decimalIn f (n / 10) ++ (glyph (n % 10) ∷ [])) (lt-ltb n 10 t))
+spelled (suc f) (suc (suc k)) n h (l, s, g) =
+    let e : suc (suc k) - 1 ≡ suc k = omega arith in
+    let low : 10 ^ suc k ≤ n = rw e at (g (omega arith)) in
+    let big : 10 ≤ n = omega (arith, pow-suc 10 k, one-le-pow k 10 (omega arith)) in
+    rw (le-ltb n 10 big)
+    (ap (λ (x : List ℕ). x ++ (glyph (n % 10) ∷ []))
+    (spelled f (suc k) (n / 10) (omega arith) (omega arith, omega (arith, pow-suc 10 (suc k)), λ u. let o : suc k - 1 ≡ k = omega arith in rw o (omega (arith, pow-suc 10 k)))))
+
+-- a number of 64 bits has at most 20 digits
+pub few : (n k : ℕ) → n < 2 ^ 64 → Fewest 10 1 n k → k ≤ 20
+few n k h (l, s, g) =
+    ⊎-elim (λ (u : k < 21). omega arith)
+    (λ (u : 21 ≤ k). absurd (omega (arith, g (omega arith), pow-le-pow-right {n = 10} (omega arith) {i = 20} {j = k - 1} (omega arith))))
+    (side k 21)
+
+pub numbered :
+    {b : List ℕ} {at : ℕ} {x : List ℕ} {r : ℕ} {c : List ℕ} (n k : ℕ) → n < 2 ^ 64 → Put b at x r c → x ≡ digits 10 k n → k ≡ length x → Fewest 10 1 n k
+    → Put b at (decimal n) r c × (r ≤ at + 20)
+numbered {b} {at} {x} {r} {c} n k h p e l w =
+    (subst (λ (t : List ℕ). Put b at t r c) (e ∙ spelled 20 k n (few n k h w) w) p, omega (arith, p .place, few n k h w))
+
+pub counts : (n : ℕ) (l : List ℕ) → n ≤ length l → Counts n l
+counts n l h = (h, sym (length-take-le n l h))
