@@ -368,16 +368,16 @@ fn plain(event: Found, b: &[u32], select: u32, window: u32, i: Instruction, w: u
     requires { ⌜ length (now b) ≡ 256 ⌝ }
     ensures { λ r. ⌜ r ≡ x.withoutAccess (x.viewWith event (now (b .entry)) select window) i w ⌝ }
 {
-    let ca = causes::of(b, event, i, w, false);
-    if causes::suppress(ca) {
-        return finish::stopped(w, ca, event, WalkChange::Nothing);
+    let masked = causes::of(b, event, i, w, false);
+    if causes::suppress(masked) {
+        return finish::stopped(w, masked, event, WalkChange::Nothing);
     }
     let walks = dropped(b, i, w);
     finish::finished(
         i,
         w,
         0,
-        ca,
+        masked,
         event,
         BufferChange::Nothing,
         walks,
