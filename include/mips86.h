@@ -1,0 +1,103 @@
+/*
+ * The MIPS-86 machine with one to four cores: make a machine, take one step, run a schedule.
+ *
+ * The caller lends the machine's tables (32-bit words) and its memory (bytes). All of the machine is in them: nothing
+ * is kept between calls, nothing is allocated, and a copy of both is a copy of the machine.
+ *
+ * Link with libmips86.a (x86-64 Linux). The functions are proved in Rattle; crates/mips86 has what is proved of each.
+ */
+#ifndef MIPS86_H
+#define MIPS86_H
+
+#include <stddef.h>
+#include <stdint.h>
+
+#ifdef __cplusplus
+extern "C" {
+#endif
+
+/*
+ * Sizes. Memory is 1 to 4,096 whole pages. A step is six words. A schedule has at most 1,024 steps.
+ */
+#define MIPS86_MOST_CORES 4
+#define MIPS86_MOST_PAGES 4096
+#define MIPS86_PAGE_BYTES 4096
+#define MIPS86_TABLE_WORDS(cores) (32 + 256 * (size_t)(cores))
+#define MIPS86_STEP_WORDS 6
+#define MIPS86_MOST_STEPS 1024
+
+/*
+ * The tables, in short. Words 0 to 31 are the header: 0 cores, 1 pages, 2 the count of refused steps, 3 the interrupt
+ * lines (bit n is line n), 4 IOREGSEL, 5 IOWIN, 6 to 29 the redirect entries, 30 and 31 zero.
+ * The block of core k starts at word 32 + 256 * k. In it: 0 to 31 the general registers, 32 to 63 the special
+ * registers, 64 pc, 65 HI, 66 LO, 67 running (0 or 1), 68 to 70 the first pending store, walk and free record, 71 zero,
+ * 72 to 103 the 128 bytes of the local APIC's ports, low byte first, 104 to 111 the EOI pending bits, 112 sipirr,
+ * 113 sipivect, 114 initrr, 115 to 127 zero, 128 to 255 the 32 records of four words.
+ *
+ * A step's words: kind, core or line, and four more.
+ *    0 core (fetch walk, data walk: two words each)    6 apic-sendEOI
+ *    1 tlb-create (va)                                 7 apic-initCore
+ *    2 tlb-extend (walk, rights)                       8 apic-startCore
+ *    3 tlb-accessed (walk)                             9 ioapic-sample
+ *    4 store buffer                                   10 ioapic-deliver
+ *    5 apic-sendIPI                                   11 set line (level 0 or 1)
+ * Words that a kind does not name are zero.
+ */
+
+/*
+ * What is asked of every call. Each pointer is not null, is aligned for its type, and points to as many words or bytes
+ * as the length after it says (with the length 0 it is still not null). The tables and the memory, which are written,
+ * overlap nothing else that the call is given: nor does the word at `accepted`. No other thread writes what a call was
+ * lent, or reads the tables, the memory or `*accepted`, until it returns. Calls on different machines may run at the
+ * same time. There is no other condition: any words and bytes may be handed over.
+ */
+
+/*
+ * The numbers that the functions answer. A refusal is MIPS86_REFUSED plus:
+ *    1 cores not 1 to 4                            (make)
+ *    2 memory not 1 to 4,096 whole pages           (make)
+ *    3 table length not that of the cores          (make)
+ *    4 tables not sound                            (step, run)
+ *    5 not a step                                  (step, run)
+ *    6 the machine has no next state by this step  (step, run)
+ *    7 a byte is in neither memory nor a port      (step, run)
+ *    8 a ninth pending store                       (step, run)
+ *    9 a twenty-fourth walk                        (step, run)
+ *   10 no free record                              (step, run)
+ *   11 schedule not of whole steps, or over 1,024  (run)
+ * Where several apply, the first of them is given.
+ */
+#define MIPS86_DONE 0u      /* made; the step is done; the end of the schedule */
+#define MIPS86_LIMIT 1u     /* run: the limit is spent */
+#define MIPS86_INTERRUPT 1u /* step: 1 to 8, plus the level 0 to 7 */
+#define MIPS86_REFUSED 100u
+
+/*
+ * Makes a machine of so many cores as it is after reset: fills the tables and leaves the memory as it is.
+ * Answers 0, or a refusal (1, 2, 3), which writes nothing.
+ */
+uint32_t mips86_make(uint32_t *tables, size_t ntables, const uint8_t *memory, size_t nmemory, uint32_t cores);
+
+/*
+ * Takes one step. A step whose length is not six is not a step (5).
+ * Answers 0 where it is done, 1 to 8 where a core took an interrupt of level 0 to 7, or a refusal (4 to 10).
+ * Refusal 4 writes nothing; 5 to 10 write the count of refused steps alone, which stays at 4,294,967,295 once there.
+ */
+uint32_t mips86_step(uint32_t *tables, size_t ntables, uint8_t *memory, size_t nmemory, const uint32_t *step,
+                     size_t nstep);
+
+/*
+ * Takes the steps of a schedule one after the other: to its end, until `limit` steps are accepted, or up to and
+ * with the first that is refused. The end is looked at before the limit.
+ * Answers 0 at the end, 1 where the limit is spent, or a refusal: 4 and 11 before any step, and then nothing of the
+ * machine is written, or 5 to 10 of a step. Writes to *accepted how many steps were accepted (0 with 4 and 11).
+ * The tables are checked once, so a run costs less than its steps by themselves.
+ */
+uint32_t mips86_run(uint32_t *tables, size_t ntables, uint8_t *memory, size_t nmemory, const uint32_t *schedule,
+                    size_t nschedule, uint32_t limit, uint32_t *accepted);
+
+#ifdef __cplusplus
+}
+#endif
+
+#endif
