@@ -1,0 +1,85 @@
+// The interface for C and Rust (include/mips86.h): make, step and run on lent tables and memory. A slice is a pointer and
+// a length in C, and each operation answers one number.
+use machine::run::Stop;
+use steps::Answer;
+use tables::make::Made;
+ghost use mathlib.Core.Path.{_≡_};
+ghost use Prim.Native.Nat.{_<_, _^_};
+ghost use lib.ListN.{length};
+ghost use Rattle.tables.specs.Make as made;
+ghost use Rattle.steps.specs.Answers.{answerNumber};
+ghost use Rattle.machine.specs.Step as one;
+ghost use Rattle.machine.specs.Run as many;
+ghost use Rattle.mips86.specs.Numbers.{madeNumber, stopNumber};
+
+fn made_number(a: Made) -> u32
+    ensures { λ r. ⌜ r ≡ madeNumber a ⌝ }
+{
+    match a {
+        Made::Done => 0,
+        Made::Cores => 101,
+        Made::Memory => 102,
+        Made::Length => 103,
+    }
+}
+
+fn answer_number(a: Answer) -> u32
+    requires { ⌜ answerNumber a < 2 ^ 32 ⌝ }
+    ensures { λ r. ⌜ r ≡ answerNumber a ⌝ }
+{
+    match a {
+        Answer::Done => 0,
+        Answer::Interrupt(level) => 1 + level,
+        Answer::Refused(n) => 100 + n,
+    }
+}
+
+fn stop_number(s: Stop) -> u32
+    requires { ⌜ stopNumber s < 2 ^ 32 ⌝ }
+    ensures { λ r. ⌜ r ≡ stopNumber s ⌝ }
+{
+    match s {
+        Stop::End => 0,
+        Stop::Limit => 1,
+        Stop::Refused(n) => 100 + n,
+    }
+}
+
+// Makes a machine: 0, or 100 and the number of a refusal.
+#[no_mangle]
+pub extern "C" fn mips86_make(tables: &mut [u32], memory: &[u8], cores: u32) -> u32
+    ensures { λ r. ⌜ r ≡ madeNumber (made.answer cores (length (now (memory .entry))) (length (now (tables .entry)))) ⌝ }
+    ensures { λ _. ⌜ now (tables .exit) ≡ made.madeOr (made.answer cores (length (now (memory .entry))) (length (now (tables .entry)))) cores (length (now (memory .entry))) (now (tables .entry)) ⌝ }
+{
+    made_number(tables::make::make(tables, memory, cores))
+}
+
+// One step of six words: 0 done, 1 to 8 an interrupt of level 0 to 7, 100 and the number of a refusal.
+#[no_mangle]
+pub extern "C" fn mips86_step(tables: &mut [u32], memory: &mut [u8], step: &[u32]) -> u32
+    ensures { λ r. ⌜ r ≡ answerNumber (one.step (now (tables .entry)) (now (memory .entry)) (now (step .entry)) .answer) ⌝ }
+    ensures { λ _. ⌜ now (tables .exit) ≡ one.step (now (tables .entry)) (now (memory .entry)) (now (step .entry)) .tables ⌝ }
+    ensures { λ _. ⌜ now (memory .exit) ≡ one.step (now (tables .entry)) (now (memory .entry)) (now (step .entry)) .memory ⌝ }
+{
+    answer_number(machine::step(tables, memory, step))
+}
+
+// A schedule of steps: 0 the end, 1 the limit is spent, 100 and the number of a refusal; and how many steps were accepted.
+#[no_mangle]
+pub extern "C" fn mips86_run(
+    tables: &mut [u32],
+    memory: &mut [u8],
+    schedule: &[u32],
+    limit: u32,
+    accepted: &mut u32,
+) -> u32
+    ensures { λ r. ⌜ r ≡ stopNumber (many.run (now (tables .entry)) (now (memory .entry)) (now (schedule .entry)) limit .why) ⌝ }
+    ensures { λ _. ⌜ now (accepted .exit) ≡ many.run (now (tables .entry)) (now (memory .entry)) (now (schedule .entry)) limit .accepted ⌝ }
+    ensures { λ _. ⌜ now (tables .exit) ≡ many.run (now (tables .entry)) (now (memory .entry)) (now (schedule .entry)) limit .tables ⌝ }
+    ensures { λ _. ⌜ now (memory .exit) ≡ many.run (now (tables .entry)) (now (memory .entry)) (now (schedule .entry)) limit .memory ⌝ }
+{
+    let r = machine::run::run(tables, memory, schedule, limit);
+    *accepted = r.accepted;
+    let stop = r.stop;
+    stop_number(stop)
+}
