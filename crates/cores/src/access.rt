@@ -369,10 +369,10 @@ fn plain(event: Found, b: &[u32], select: u32, window: u32, i: Instruction, w: u
     ensures { λ r. ⌜ r ≡ x.withoutAccess (x.viewWith event (now (b .entry)) select window) i w ⌝ }
 {
     let masked = causes::of(b, event, i, w, false);
+    let walks = dropped(b, i, w);
     if causes::suppress(masked) {
         return finish::stopped(w, masked, event, WalkChange::Nothing);
     }
-    let walks = dropped(b, i, w);
     finish::finished(
         i,
         w,

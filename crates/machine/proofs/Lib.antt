@@ -4,3 +4,5 @@ pub mod Deciding
 pub mod Taking
 pub mod Keeping
 pub mod Running
+pub mod Locality
+pub mod Counting
