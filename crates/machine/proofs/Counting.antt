@@ -1,4 +1,4 @@
--- A run is as many single steps as it says: its accepted count, and one more where a step was refused.
+-- The steps of a run leave what as many single steps leave as its count says, and one more where a step was refused.
 -- Assumes nothing.
 use mathlib.Core.Path.{_≡_, refl, sym, _∙_, ap}
 use mathlib.Core.Bool.{Bool, true, false}

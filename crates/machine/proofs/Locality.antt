@@ -1,5 +1,6 @@
--- A step of a core (kinds 0 to 4) depends on its core's block, on memory and on the words IOREGSEL and IOWIN, and on nothing else of the tables.
--- It changes at most that block, the I/O APIC's words of the header and one aligned run of memory bytes.
+-- What a step of a core (kinds 0 to 4) decides on sound tables depends on its core's block, on memory and on the words IOREGSEL and IOWIN,
+-- and on nothing else of the tables. Where it is done it changes at most that block, the I/O APIC's words of the header and one aligned run of
+-- memory bytes. (A refused step moves the refusal count, and a store to IOREGSEL reads the redirect entry that it selects.)
 -- Assumes nothing.
 use mathlib.Core.Path.{_≡_, refl, sym, _∙_, ap}
 use mathlib.Core.Bool.{true}
