@@ -1,0 +1,8 @@
+// The pages that a group of cores reaches (specs/Reach.antt).
+
+// The map is filled, and every page reached is in memory, or one is beyond it; or the number of a refusal.
+pub enum Reached {
+    Inside,
+    Beyond,
+    Refused(u32),
+}
