@@ -1,0 +1,13 @@
+pub mod Asked
+pub mod TwoLists
+pub mod Memory
+pub mod Good
+pub mod Plans
+pub mod Local
+pub mod Safe
+pub mod Facts
+pub mod Within
+pub mod Closing
+pub mod Mapped
+pub mod Yes
+pub mod Separation

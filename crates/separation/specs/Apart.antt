@@ -1,0 +1,64 @@
+-- The operation Apart (01).
+-- Assumes nothing.
+use mathlib.Core.Bool.{Bool, true, false, _&&_, not}
+use mathlib.Core.List.{List, _++_}
+use Prim.Native.Nat.{ℕ, _+_}
+use lib.ListN.{length}
+use Rattle.word.specs.Word.{if_then_else_, isSet}
+use Rattle.layout.specs.Blocks.{block}
+use Rattle.records.specs.Records.{all}
+use Rattle.tables.specs.Views.{coresOf, pagesOf}
+use Rattle.tables.specs.Sound.{sound}
+use Rattle.tlb.specs.Steps.{userMode, runs}
+use Rattle.reach.specs.Lists.{range, has, select}
+use Rattle.reach.specs.Reach.{Pages, isGroup, members, reach, tablePages, reached, inMemory}
+use Rattle.separation.specs.declared.Verdict.{Verdict}
+use Rattle.separation.specs.declared.Verdict.the-variants.{No, Yes, Refused}
+
+-- the running cores
+unfoldable pub running : List ℕ → List ℕ
+running t = select (λ k. runs (block t k)) (range (coresOf t))
+
+-- the rest: the other running cores
+unfoldable pub rest : ℕ → List ℕ → List ℕ
+rest g t = select (λ k. not (isSet g k)) (running t)
+
+-- a core is running in user mode
+abbrev pub runsAsUser : List ℕ → ℕ → Bool
+runsAsUser t k = runs (block t k) && userMode (block t k)
+
+-- no page is in both lists
+unfoldable pub disjoint : List ℕ → List ℕ → Bool
+disjoint l r = all (λ x. not (has x r)) l
+
+-- no page is both writable and table for one side
+abbrev pub closed : Pages → Bool
+closed S = disjoint (S .writables) (tablePages S)
+
+-- For a group g: every core of both sides is running in user mode, neither side reaches a page beyond memory, no page is both writable
+-- and table for one side, and no page reached by the group is writable or table for the rest.
+unfoldable pub apart : ℕ → List ℕ → List ℕ → Bool
+apart g t m =
+    let G : List ℕ = members g (coresOf t) in
+    let R : List ℕ = rest g t in
+    let S : Pages = reach G t m in
+    let T : Pages = reach R t m in
+    all (runsAsUser t) (G ++ R)
+    && ((inMemory S (pagesOf t) && inMemory T (pagesOf t))
+    && ((closed S && closed T)
+    && disjoint (reached S) (T .writables ++ tablePages T)))
+
+-- ---- the operation
+
+unfoldable pub apartOn : ℕ → List ℕ → List ℕ → Verdict
+apartOn g t m =
+    if not (sound t (length m)) then Refused 4
+    else if not (isGroup g (coresOf t)) then Refused 13
+    else if apart g t m then Yes
+    else No
+
+-- the number for each verdict: 0 no, 1 yes, 100 and 01's number of a refusal
+abbrev pub verdictNumber : Verdict → ℕ
+verdictNumber No = 0
+verdictNumber Yes = 1
+verdictNumber (Refused n) = 100 + n

@@ -1,0 +1,8 @@
+// Whether a group of cores is kept apart from the rest (specs/Apart.antt), and what that promises (specs/Separation.antt).
+
+// Not apart, or apart; or the number of a refusal.
+pub enum Verdict {
+    No,
+    Yes,
+    Refused(u32),
+}
