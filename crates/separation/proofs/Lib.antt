@@ -11,3 +11,4 @@ pub mod Closing
 pub mod Mapped
 pub mod Yes
 pub mod Separation
+pub mod Deciding

@@ -76,7 +76,7 @@ not-zero false true false = refl
 not-zero false false true = refl
 not-zero false false false = refl
 
-has-append : (p : ℕ) (l r : List ℕ) → has p (l ++ r) ≡ has p l || has p r
+pub has-append : (p : ℕ) (l r : List ℕ) → has p (l ++ r) ≡ has p l || has p r
 unfolding has
 has-append p [] r = refl
 has-append p (x ∷ l) r = go (eqb p x) (has-append p l r)
@@ -95,12 +95,20 @@ marked-is S p =
     not-zero (has p (tablePages S)) (has p (S .datas)) (has p (S .writables))
     ∙ sym (has-append p (tablePages S) (S .datas ++ S .writables) ∙ ap (λ (t : Bool). has p (tablePages S) || t) (has-append p (S .datas) (S .writables)))
 
+pub byte-table : (S : Pages) (p : ℕ) → isSet (mapByte S p) 1 ≡ has p (tablePages S)
+unfolding mapByte
+byte-table S p = bit-table (has p (tablePages S)) (has p (S .datas)) (has p (S .writables))
+
+pub byte-writable : (S : Pages) (p : ℕ) → isSet (mapByte S p) 2 ≡ has p (S .writables)
+unfolding mapByte
+byte-writable S p = bit-writable (has p (tablePages S)) (has p (S .datas)) (has p (S .writables))
+
 pub reached-low : (n : ℕ) (S : Pages) (p : ℕ) → inMemory S n ≡ true → In p (reached S) → p < n
 unfolding inMemory
 reached-low n S p e h = ltb-true _ _ (all-in (λ q. ltb q n) (reached S) p e h)
 
 module _ (cs t m : List ℕ) (e : inMemory (reach cs t m) (pagesOf t) ≡ true) where
-  byte-in : (p : ℕ) → p < pagesOf t → getD (mapFor cs t m) p 0 ≡ mapByte (reach cs t m) p
+  pub byte-in : (p : ℕ) → p < pagesOf t → getD (mapFor cs t m) p 0 ≡ mapByte (reach cs t m) p
   unfolding mapFor
   byte-in p h = map-at (λ (x : ℕ). mapByte (reach cs t m) x) (pagesOf t) p h
 
@@ -115,22 +123,16 @@ module _ (cs t m : List ℕ) (e : inMemory (reach cs t m) (pagesOf t) ≡ true) 
     pub table-bit : isSet (getD (mapFor cs t m) p 0) 1 ≡ has p (tablePages (reach cs t m))
     table-bit =
         tested (ltb p (pagesOf t))
-        (λ l. ap (λ (x : ℕ). isSet x 1) (byte-in p (ltb-true _ _ l)) ∙ unfolded)
+        (λ l. ap (λ (x : ℕ). isSet x 1) (byte-in p (ltb-true _ _ l)) ∙ byte-table (reach cs t m) p)
         (λ l. ap (λ (x : ℕ). isSet x 1) (byte-out p (ltb-false _ _ l))
         ∙ sym (none-beyond p (tablePages (reach cs t m)) (λ q h. in-left q (tablePages (reach cs t m)) _ h) (ltb-false _ _ l)))
-      where
-        unfolded : isSet (mapByte (reach cs t m) p) 1 ≡ has p (tablePages (reach cs t m))
-        unfolded = unfold mapByte in bit-table (has p (tablePages (reach cs t m))) (has p (reach cs t m .datas)) (has p (reach cs t m .writables))
 
     pub writable-bit : isSet (getD (mapFor cs t m) p 0) 2 ≡ has p (reach cs t m .writables)
     writable-bit =
         tested (ltb p (pagesOf t))
-        (λ l. ap (λ (x : ℕ). isSet x 2) (byte-in p (ltb-true _ _ l)) ∙ unfolded)
+        (λ l. ap (λ (x : ℕ). isSet x 2) (byte-in p (ltb-true _ _ l)) ∙ byte-writable (reach cs t m) p)
         (λ l. ap (λ (x : ℕ). isSet x 2) (byte-out p (ltb-false _ _ l))
         ∙ sym (none-beyond p (reach cs t m .writables) (λ q h. in-right q (tablePages (reach cs t m)) _ (in-right q (reach cs t m .datas) _ h)) (ltb-false _ _ l)))
-      where
-        unfolded : isSet (mapByte (reach cs t m) p) 2 ≡ has p (reach cs t m .writables)
-        unfolded = unfold mapByte in bit-writable (has p (tablePages (reach cs t m))) (has p (reach cs t m .datas)) (has p (reach cs t m .writables))
 
   -- the pages that the map shows
   pub shown-is : select (λ p. not (eqb (getD (mapFor cs t m) p 0) 0)) (range (pagesOf t)) ≡ select (λ p. has p (reached (reach cs t m))) (range (pagesOf t))

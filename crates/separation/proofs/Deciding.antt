@@ -1,0 +1,231 @@
+-- What the functions inside apart answer (specs/Sides), tied to Apart.
+-- Assumes nothing.
+use mathlib.Core.Path.{_≡_, refl, sym, ap, ap₂, subst, _∙_}
+use mathlib.Core.Logic.{_⊎_, inl, inr, ⊎-elim}
+use mathlib.Core.Bool.{Bool, true, false, _&&_, _||_, not}
+use mathlib.Core.List.{List, [], _∷_, _++_}
+use Prim.Native.Nat.{ℕ, zero, suc, _+_, _<_, _≤_}
+use native.Mathlib.Numerals.{add-one}
+use native.Mathlib.Omega.{arith}
+use native.Mathlib.Decide.{ℕ-discrete}
+use mir.Val.{boolByte}
+use lib.ListN.{length, getD}
+use lib.Dec.{eqb, ltb}
+use borrow.Author.Tests.{ltb-true, ltb-false, lt-ltb}
+use Rattle.word.specs.Word.{isSet, bit, flag, if_then_else_}
+use Rattle.layout.specs.Blocks.{block}
+use Rattle.records.specs.Records.{all}
+use Rattle.tables.specs.Views.{coresOf}
+use Rattle.tlb.specs.Steps.{userMode, runs}
+use Rattle.apic.specs.Vectors.{withBit}
+use Rattle.apic.proofs.Bits.{bit-same, bit-other}
+use Rattle.reach.specs.Lists.{range, has, select}
+use Rattle.reach.specs.Reach.{Pages, members, tablePages, reached, inMemory, mapByte}
+use Rattle.reach.proofs.Lists.{tested, decided, clash, and-left, and-right, and-both, or-cases, In, in-left, in-right, in-append, in-range, range-in, all-in, select-same, select-append}
+use Rattle.separation.specs.Apart.{running, rest, runsAsUser, disjoint, closed}
+use Rattle.separation.specs.Sides.{passes, both, pageApart}
+use Rattle.separation.proofs.Mapped.{marked-is, has-append, byte-table, byte-writable, reached-low}
+
+-- ---- tests of all
+
+all-append : {A : Type 0} (p : A → Bool) (l r : List A) → all p (l ++ r) ≡ all p l && all p r
+unfolding all
+all-append p [] r = refl
+all-append p (x ∷ l) r = go (p x) (all-append p l r)
+  where
+    go : (a : Bool) → all p (l ++ r) ≡ all p l && all p r → a && all p (l ++ r) ≡ (a && all p l) && all p r
+    go true e = e
+    go false e = refl
+
+and-true : (a : Bool) → a && true ≡ a
+and-true true = refl
+and-true false = refl
+
+-- one more number
+pub all-next : (p : ℕ → Bool) (i : ℕ) → all p (range (i + 1)) ≡ all p (range i) && p i
+unfolding all range
+all-next p i =
+    ap (λ (n : ℕ). all p (range n)) (add-one i) ∙ all-append p (range i) (i ∷ []) ∙ ap (λ (t : Bool). all p (range i) && t) (and-true (p i))
+
+pub all-none : (p : ℕ → Bool) → all p (range 0) ≡ true
+unfolding all range
+all-none p = refl
+
+pub in-all : (p : ℕ → Bool) (l : List ℕ) → ((x : ℕ) → In x l → p x ≡ true) → all p l ≡ true
+unfolding all has
+in-all p [] f = refl
+in-all p (x ∷ l) f = and-both (p x) (all p l) (f x (Rattle.reach.proofs.Lists.in-here x l)) (in-all p l (λ y h. f y (Rattle.reach.proofs.Lists.in-there y x l h)))
+
+both-ways : (a b : Bool) → (a ≡ true → b ≡ true) → (b ≡ true → a ≡ true) → a ≡ b
+both-ways true b f g = sym (f refl)
+both-ways false true f g = g refl
+both-ways false false f g = refl
+
+all-same : (p q : ℕ → Bool) (l : List ℕ) → ((x : ℕ) → In x l → p x ≡ q x) → all p l ≡ all q l
+all-same p q l f =
+    both-ways (all p l) (all q l)
+    (λ e. in-all q l (λ x h. sym (f x h) ∙ all-in p l x e h))
+    (λ e. in-all p l (λ x h. f x h ∙ all-in q l x e h))
+
+all-and : (p q : ℕ → Bool) (l : List ℕ) → all p l && all q l ≡ all (λ x. p x && q x) l
+all-and p q l =
+    both-ways (all p l && all q l) (all (λ x. p x && q x) l)
+    (λ e. in-all (λ x. p x && q x) l (λ x h. and-both (p x) (q x) (all-in p l x (and-left (all p l) _ e) h) (all-in q l x (and-right (all p l) _ e) h)))
+    (λ e. and-both (all p l) (all q l) (in-all p l (λ x h. and-left (p x) (q x) (all-in (λ y. p y && q y) l x e h))) (in-all q l (λ x h. and-right (p x) (q x) (all-in (λ y. p y && q y) l x e h))))
+
+all-select : (p f : ℕ → Bool) (l : List ℕ) → all p (select f l) ≡ all (λ x. not (f x) || p x) l
+unfolding all select
+all-select p f [] = refl
+all-select p f (x ∷ l) = go (f x) (all-select p f l)
+  where
+    go : (t : Bool) → all p (select f l) ≡ all (λ y. not (f y) || p y) l → all p (if t then x ∷ select f l else select f l) ≡ (not t || p x) && all (λ y. not (f y) || p y) l
+    go true e = ap (λ (u : Bool). p x && u) e
+    go false e = e
+
+-- ---- cores
+
+select-select : (f g : ℕ → Bool) (l : List ℕ) → select f (select g l) ≡ select (λ x. f x && g x) l
+unfolding select
+select-select f g [] = refl
+select-select f g (x ∷ l) = go (g x) (f x) (select-select f g l)
+  where
+    go : (u t : Bool) → select f (select g l) ≡ select (λ y. f y && g y) l
+        → select f (if u then x ∷ select g l else select g l) ≡ (if f x && u then x ∷ select (λ y. f y && g y) l else select (λ y. f y && g y) l)
+    go true t e = inner (f x) e
+      where
+        inner : (v : Bool) → select f (select g l) ≡ select (λ y. f y && g y) l
+            → (if v then x ∷ select f (select g l) else select f (select g l)) ≡ (if v && true then x ∷ select (λ y. f y && g y) l else select (λ y. f y && g y) l)
+        inner true q = ap (λ (k : List ℕ). x ∷ k) q
+        inner false q = q
+    go false t e = none (f x) e
+      where
+        none : (v : Bool) → select f (select g l) ≡ select (λ y. f y && g y) l → select f (select g l) ≡ (if v && false then x ∷ select (λ y. f y && g y) l else select (λ y. f y && g y) l)
+        none true q = q
+        none false q = q
+
+-- core j is another running core
+abbrev pub isOther : ℕ → List ℕ → ℕ → Bool
+isOther g t j = not (isSet g j) && runs (block t j)
+
+-- a number whose bits up to k say which of the first k cores are other running cores
+pub record Others (g : ℕ) (t : List ℕ) (r k : ℕ) : Type 0 where
+  pub bits : (j : ℕ) → j < k → isSet r j ≡ isOther g t j
+
+pub others-none : (g : ℕ) (t : List ℕ) (r : ℕ) → Others g t r 0
+others-none g t r = record { bits = λ j h. absurd (omega arith) }
+
+flag-small : (b : Bool) → flag b < 2
+flag-small true = omega arith
+flag-small false = omega arith
+
+flag-bit : (b : Bool) → eqb (flag b) 1 ≡ b
+flag-bit true = refl
+flag-bit false = refl
+
+pub others-next : (g : ℕ) (t : List ℕ) (r k : ℕ) → Others g t r k → Others g t (withBit r k (flag (isOther g t k))) (k + 1)
+others-next g t r k o =
+    record {
+      bits = λ j h. decided (ℕ-discrete j k)
+          (λ e. subst (λ (i : ℕ). isSet (withBit r k (flag (isOther g t k))) i ≡ isOther g t i) (sym e)
+          (ap (λ (x : ℕ). eqb x 1) (bit-same r k (flag (isOther g t k)) (flag-small (isOther g t k))) ∙ flag-bit (isOther g t k)))
+          (λ d. ap (λ (x : ℕ). eqb x 1) (bit-other r k (flag (isOther g t k)) (flag-small (isOther g t k)) j d) ∙ o .bits j (omega arith));
+    }
+
+pub byte-small : (b : Bool) → boolByte b < 2
+byte-small true = omega arith
+byte-small false = omega arith
+
+byte-flag : (b : Bool) → boolByte b ≡ flag b
+byte-flag true = refl
+byte-flag false = refl
+
+-- the bit that the code puts
+pub others-put : {g : ℕ} {t : List ℕ} {r k s : ℕ} {i u : Bool} → i ≡ isSet g k → u ≡ runs (block t k) → s ≡ withBit r k (boolByte (not i && u)) → Others g t r k → Others g t s (k + 1)
+others-put {g} {t} {r} {k} {s} {i} {u} p q e o =
+    subst (λ (n : ℕ). Others g t n (k + 1)) (sym (e ∙ ap (withBit r k) (byte-flag (not i && u) ∙ ap₂ (λ (a b : Bool). flag (not a && b)) p q))) (others-next g t r k o)
+
+pub others-all : (g : ℕ) (t : List ℕ) (r : ℕ) → Others g t r (coresOf t) → members r (coresOf t) ≡ rest g t
+unfolding members rest running
+others-all g t r o =
+    select-same (λ j. isSet r j) (isOther g t) (range (coresOf t)) (λ j h. o .bits j (range-in (coresOf t) j h))
+    ∙ sym (select-select (λ j. not (isSet g j)) (λ j. runs (block t j)) (range (coresOf t)))
+
+-- every core of both sides is running in user mode
+pub users-are : (g : ℕ) (t : List ℕ) → all (runsAsUser t) (members g (coresOf t) ++ rest g t) ≡ all (passes g t) (range (coresOf t))
+unfolding members rest running
+users-are g t =
+    all-append (runsAsUser t) (select (λ k. isSet g k) (range (coresOf t))) (select (λ k. not (isSet g k)) (select (λ k. runs (block t k)) (range (coresOf t))))
+    ∙ ap₂ _&&_ (all-select (runsAsUser t) (λ k. isSet g k) (range (coresOf t)))
+    (ap (all (runsAsUser t)) (select-select (λ k. not (isSet g k)) (λ k. runs (block t k)) (range (coresOf t)))
+    ∙ all-select (runsAsUser t) (isOther g t) (range (coresOf t)))
+    ∙ all-and (λ k. not (isSet g k) || runsAsUser t k) (λ k. not (isOther g t k) || runsAsUser t k) (range (coresOf t))
+    ∙ all-same (λ k. (not (isSet g k) || runsAsUser t k) && (not (isOther g t k) || runsAsUser t k)) (passes g t) (range (coresOf t))
+    (λ k h. one-side (isSet g k) (runs (block t k)) (runsAsUser t k))
+  where
+    one-side : (i r u : Bool) → ((not i || u) && (not (not i && r) || u)) ≡ (not (i || r) || u)
+    one-side true true true = refl
+    one-side true true false = refl
+    one-side true false true = refl
+    one-side true false false = refl
+    one-side false true true = refl
+    one-side false true false = refl
+    one-side false false true = refl
+    one-side false false false = refl
+
+-- ---- pages
+
+not-twice : (a b : Bool) → not (a && b) ≡ true → a ≡ true → b ≡ true → ⊥
+not-twice a b e p q = clash (a && b) (and-both a b p q) (borrow.Author.Tests.not-true (a && b) e)
+
+-- lists of numbers below n have none in common
+disjoint-below : (n : ℕ) (l r : List ℕ) → ((x : ℕ) → In x l → x < n) → disjoint l r ≡ all (λ x. not (has x l && has x r)) (range n)
+unfolding disjoint
+disjoint-below n l r low =
+    both-ways (all (λ x. not (has x r)) l) (all (λ x. not (has x l && has x r)) (range n))
+    (λ e. in-all (λ x. not (has x l && has x r)) (range n) (λ x h. tested (has x l && has x r)
+    (λ q. absurd (clash (has x r) (and-right (has x l) _ q) (borrow.Author.Tests.not-true (has x r) (all-in (λ y. not (has y r)) l x e (and-left (has x l) _ q)))))
+    (λ q. ap not q)))
+    (λ e. in-all (λ x. not (has x r)) l (λ x h. tested (has x r)
+    (λ q. absurd (not-twice (has x l) (has x r) (all-in (λ y. not (has y l && has y r)) (range n) x e (in-range n x (low x h))) h q))
+    (λ q. ap not q)))
+
+-- the two sides, whose pages are below n
+module _ (n : ℕ) (S T : Pages) (e : inMemory S n ≡ true) (f : inMemory T n ≡ true) where
+  table-in : (U : Pages) (x : ℕ) → In x (tablePages U) → In x (reached U)
+  table-in U x h = in-left x (tablePages U) (U .datas ++ U .writables) h
+
+  writable-in : (U : Pages) (x : ℕ) → In x (U .writables) → In x (reached U)
+  writable-in U x h = in-right x (tablePages U) (U .datas ++ U .writables) (in-right x (U .datas) (U .writables) h)
+
+  closed-below : (U : Pages) → inMemory U n ≡ true → closed U ≡ all (λ x. not (both (mapByte U x))) (range n)
+  closed-below U g =
+      disjoint-below n (U .writables) (tablePages U) (λ x h. reached-low n U x g (writable-in U x h))
+      ∙ all-same (λ x. not (has x (U .writables) && has x (tablePages U))) (λ x. not (both (mapByte U x))) (range n)
+      (λ x h. ap not (swap (has x (U .writables)) (has x (tablePages U)) ∙ sym (ap₂ _&&_ (byte-table U x) (byte-writable U x))))
+    where
+      swap : (a b : Bool) → a && b ≡ b && a
+      swap true true = refl
+      swap true false = refl
+      swap false true = refl
+      swap false false = refl
+
+  cross-below : disjoint (reached S) (T .writables ++ tablePages T)
+      ≡ all (λ x. not (not (eqb (mapByte S x) 0) && (isSet (mapByte T x) 2 || isSet (mapByte T x) 1))) (range n)
+  cross-below =
+      disjoint-below n (reached S) (T .writables ++ tablePages T) (λ x h. reached-low n S x e h)
+      ∙ all-same (λ x. not (has x (reached S) && has x (T .writables ++ tablePages T)))
+      (λ x. not (not (eqb (mapByte S x) 0) && (isSet (mapByte T x) 2 || isSet (mapByte T x) 1))) (range n)
+      (λ x h. ap not (ap₂ _&&_ (sym (marked-is S x)) (has-append x (T .writables) (tablePages T) ∙ sym (ap₂ _||_ (byte-writable T x) (byte-table T x)))))
+
+  pub pages-are : ((closed S && closed T) && disjoint (reached S) (T .writables ++ tablePages T)) ≡ all (λ x. pageApart (mapByte S x) (mapByte T x)) (range n)
+  unfolding pageApart
+  pages-are =
+      ap₂ _&&_ (ap₂ _&&_ (closed-below S e) (closed-below T f)) cross-below
+      ∙ ap (λ (t : Bool). t && all (λ x. not (not (eqb (mapByte S x) 0) && (isSet (mapByte T x) 2 || isSet (mapByte T x) 1))) (range n))
+      (all-and (λ x. not (both (mapByte S x))) (λ x. not (both (mapByte T x))) (range n))
+      ∙ all-and (λ x. not (both (mapByte S x)) && not (both (mapByte T x))) (λ x. not (not (eqb (mapByte S x) 0) && (isSet (mapByte T x) 2 || isSet (mapByte T x) 1))) (range n)
+      ∙ all-same _ (λ x. pageApart (mapByte S x) (mapByte T x)) (range n) (λ x h. regroup (not (both (mapByte S x))) (not (both (mapByte T x))) _)
+    where
+      regroup : (a b c : Bool) → ((a && b) && c) ≡ (a && (b && c))
+      regroup true b c = refl
+      regroup false b c = refl

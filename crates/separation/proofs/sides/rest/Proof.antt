@@ -1,0 +1,80 @@
+-- `separation::sides::rest` meets its contract. The loop: the bits of the cores passed are those of the other running cores.
+-- Assumes nothing.
+use borrow.Author.Needs.{needs}
+use mathlib.Core.Path.{_≡_, refl, sym, ap, ap₂, subst, _∙_}
+use Prim.Native.Nat.{ℕ, _≤_, _-_}
+use native.Mathlib.Omega.{arith}
+use mathlib.Core.Bool.{_&&_, not}
+use denote.Ref.{now}
+use Rattle.tables.specs.Views.{coresOf}
+use Rattle.separation.proofs.Deciding.{Others, others-none, others-put, others-all, byte-small}
+use Rattle.tlb.specs.Steps.{runs}
+use Rattle.separation.proofs.sides.rest.Statement.{statement}
+use Rattle.separation.proofs.sides.rest.Tie as tie
+
+abbrev Inv-loop : tie.InvT-loop
+Inv-loop t group cores r₀ k₀ r k = (cores ≡ coresOf t) × ((k ≤ cores) × Others group t r k)
+
+abbrev μ-loop : tie.MeasureT-loop
+μ-loop t group cores r₀ k₀ r k = cores - k
+
+shared-slice-read-cores : tie.Need-shared-slice-read-cores Inv-loop μ-loop
+shared-slice-read-cores c = omega arith
+
+loop-holds : tie.Need-loop-holds Inv-loop μ-loop
+loop-holds c = (refl, (omega arith, others-none _ _ _))
+
+is-member-requires : tie.Need-is-member-requires Inv-loop μ-loop
+is-member-requires c κs = omega arith
+
+core-requires : tie.Need-core-requires Inv-loop μ-loop
+core-requires c κs = (omega arith, omega arith)
+
+runs-requires : tie.Need-runs-requires Inv-loop μ-loop
+runs-requires c κs = c .core .ensures .1
+
+cast-put-bit : tie.Need-cast-put-bit Inv-loop μ-loop
+cast-put-bit c = search needs
+
+put-bit-requires : tie.Need-put-bit-requires Inv-loop μ-loop
+put-bit-requires c κs = (omega arith, byte-small (not (c .before .before .is-member .result) && c .runs .result))
+
+add-k : tie.Need-add-k Inv-loop μ-loop
+add-k c = omega arith
+
+loop-less : tie.Need-loop-less Inv-loop μ-loop
+loop-less c = omega arith
+
+loop-again : tie.Need-loop-again Inv-loop μ-loop
+loop-again c = (
+  c .before .before .before .before .before .loop .inv .0,
+  (
+    omega arith,
+    others-put (c .before .before .before .is-member .ensures) (c .before .runs .ensures ∙ ap runs (c .before .before .core .ensures .0)) (c .put-bit .ensures)
+        (c .before .before .before .before .before .loop .inv .1 .1),
+  ),
+)
+
+returns : tie.Need-returns Inv-loop μ-loop
+returns c =
+    let e : c .before .loop .k ≡ coresOf (now (c .before .before .before .before .args .t)) = omega arith in
+    others-all (c .before .before .before .before .args .group) (now (c .before .before .before .before .args .t)) (c .before .loop .r)
+    (subst (Others (c .before .before .before .before .args .group) (now (c .before .before .before .before .args .t)) (c .before .loop .r)) e (c .before .loop .inv .1 .1))
+
+pub rest-spec : {M : Type 1} → statement M
+rest-spec =
+    tie.close
+    (tie.spec
+    Inv-loop
+    μ-loop
+    shared-slice-read-cores
+    loop-holds
+    is-member-requires
+    core-requires
+    runs-requires
+    cast-put-bit
+    put-bit-requires
+    add-k
+    loop-less
+    loop-again
+    returns)
