@@ -12,6 +12,7 @@ pub mod program;
 pub mod reach;
 pub mod soundness;
 pub mod vectors;
+pub mod ways;
 
 pub use machine::{make, run, step, Answer, Run, Stop, Why};
 pub use reach::{apart, reach};

@@ -102,3 +102,22 @@ fn counts() {
     vectors::read_groups(GROUPS).unwrap().0.iter().for_each(|g| counts.groups(g));
     assert!(README.contains(&counts.print_groups()), "counts of groups.bin in README.md");
 }
+
+/// Reach and apart agree with the plain listing of ways and conditions.
+#[test]
+fn reach_and_apart_are_as_listed() {
+    use oracle::ways::{map_byte, sides, ways};
+    let vectors = vectors::read_steps(STEPS).unwrap().0.into_iter().step_by(7).map(|v| v.machine);
+    let groups = vectors::read_groups(GROUPS).unwrap().0.into_iter().map(|g| g.machine);
+    for machine in vectors.chain(groups).filter(|machine| machine.damage == 0) {
+        let (t, m) = (&machine.tables, &machine.memory);
+        for group in 1..1 << machine.cores {
+            let all = ways(t, m, group);
+            let mut map = vec![0xEE; machine.pages as usize];
+            let beyond = oracle::reach(t, m, group, &mut map);
+            assert_eq!(beyond, Ok(all.iter().any(|r| r.page >= machine.pages as u32)));
+            assert!((0..).zip(&map).all(|(page, byte)| map_byte(&all, page) == *byte));
+            assert_eq!(oracle::apart(t, m, group), Ok(sides(t, m, group).fails.is_empty()));
+        }
+    }
+}
