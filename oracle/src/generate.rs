@@ -46,7 +46,7 @@ impl Rng {
         from[self.below(from.len() as u32) as usize]
     }
     /// An index, by weight.
-    fn weighted(&mut self, weights: &[u32]) -> usize {
+    pub fn weighted(&mut self, weights: &[u32]) -> usize {
         let mut x = self.below(weights.iter().sum());
         for (i, &w) in weights.iter().enumerate() {
             if x < w {
@@ -57,7 +57,7 @@ impl Rng {
         unreachable!()
     }
     /// A register value near an edge, or any.
-    fn value(&mut self) -> u32 {
+    pub fn value(&mut self) -> u32 {
         const EDGES: [u32; 20] = [
             0,
             1,

@@ -5,11 +5,13 @@
 //! in comments are those of 000.
 
 pub mod counts;
+pub mod demand3;
 pub mod generate;
 pub mod isa;
 pub mod machine;
 pub mod program;
 pub mod reach;
+pub mod sides;
 pub mod soundness;
 pub mod vectors;
 pub mod ways;

@@ -3,7 +3,8 @@
 use oracle::counts::Counts;
 use oracle::machine::step;
 use oracle::soundness::*;
-use oracle::{generate, isa, program, vectors};
+use oracle::ways::CONDITIONS;
+use oracle::{demand3, generate, isa, program, vectors};
 use std::io::{Read, Write};
 
 const HELP: &str = "\
@@ -13,6 +14,7 @@ oracle groups SEED > FILE      make the groups file (reach and apart)
 oracle replay FILE [N]         each answer and what changed (vector N alone)
 oracle check FILE              replay a steps or groups file and compare
 oracle counts FILE             how often each thing occurs
+oracle demand3 SEED N [C]      demand 3 on N pairs of machines (condition C, 1 to 9, off)
 ";
 
 fn main() {
@@ -26,6 +28,8 @@ fn main() {
         ["replay", file, n] => number(n).and_then(|n| replay(file, Some(n as usize))),
         ["check", file] => check(file),
         ["counts", file] => counts(file),
+        ["demand3", seed, n] => number(seed).and_then(|s| demand(s, number(n)?, None)),
+        ["demand3", seed, n, off] => number(seed).and_then(|s| demand(s, number(n)?, Some(number(off)?))),
         _ => Err(HELP.to_string()),
     };
     if let Err(message) = result {
@@ -97,6 +101,24 @@ fn counts(file: &str) -> Outcome {
     }
     vectors::read_steps(&bytes)?.0.iter().for_each(|v| counts.vector(v));
     print(counts.print().as_bytes())
+}
+
+/// Fails if the claim breaks; with a condition off, that is for the reader.
+fn demand(seed: u32, pairs: u32, off: Option<u32>) -> Outcome {
+    let off = match off {
+        None => None,
+        Some(n) => {
+            let (condition, text) = *CONDITIONS.get((n as usize).wrapping_sub(1)).ok_or("conditions are 1 to 9")?;
+            println!("off: {text}");
+            Some(condition)
+        }
+    };
+    let figures = demand3::trial(seed, pairs as u64, &demand3::Terms { off, tables: true });
+    print(figures.print().as_bytes())?;
+    if off.is_none() && figures.broken() != 0 {
+        return Err("it breaks".into());
+    }
+    Ok(())
 }
 
 fn replay(file: &str, only: Option<usize>) -> Outcome {
