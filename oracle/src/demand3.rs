@@ -41,6 +41,7 @@ pub struct Pair {
 }
 
 /// Numbers for the report; answers are counted as done, interrupted, refused.
+/// A step of the group counts in both machines.
 #[derive(Default, Clone, Debug, PartialEq)]
 pub struct Figures {
     pub pairs: u64,
@@ -49,7 +50,8 @@ pub struct Figures {
     pub others: [u64; 3],
     /// Done or interrupted, by kind, group and others together.
     pub kinds: [u64; 5],
-    /// Refused by number, group and others together.
+    /// Interrupts by level and refusals by number, group and others together.
+    pub levels: [u64; 8],
     pub refused: [u64; 11],
     pub group_stores_left: u64,
     pub other_stores_left: u64,
@@ -59,7 +61,7 @@ pub struct Figures {
     pub cores_differ: u64,
     pub pages_differ: u64,
     pub rest_empty_in_both: u64,
-    pub rest_reads_group_page: u64,
+    pub page_in_common: u64,
     pub idle_cores: u64,
     /// Steps that changed a header word other than the refusal count.
     pub header_changed: u64,
@@ -95,7 +97,10 @@ impl Figures {
         self.steps += 1;
         let place = match answer {
             Answer::Done => 0,
-            Answer::Interrupt(_) => 1,
+            Answer::Interrupt(level) => {
+                self.levels[level as usize] += 1;
+                1
+            }
             Answer::Refused(why) => {
                 self.refused[why.number() as usize] += 1;
                 2
@@ -129,10 +134,11 @@ impl Figures {
             "accepted: {core} core, {create} tlb-create, {extend} tlb-extend, {accessed} tlb-accessed, {buffer} store buffer"
         )
         .unwrap();
-        write!(o, "refused by number:").unwrap();
-        for n in 4..11 {
-            write!(o, " {n}: {}{}", self.refused[n], if n < 10 { "," } else { "\n" }).unwrap();
-        }
+        let list = |numbers: &[u64], from: usize| {
+            (from..numbers.len()).map(|n| format!("{n}: {}", numbers[n])).collect::<Vec<_>>().join(", ")
+        };
+        writeln!(o, "interrupted at level {}", list(&self.levels, 1)).unwrap();
+        writeln!(o, "refused {}", list(&self.refused, 4)).unwrap();
         writeln!(
             o,
             "stores that left to memory: {} of the group, {} of others; cas that wrote: {}",
@@ -147,8 +153,8 @@ impl Figures {
         .unwrap();
         writeln!(
             o,
-            "pairs: {} with other numbers of cores, {} of pages, {} without a rest, {} where the rest reads a page of the group; {} cores that do not run",
-            self.cores_differ, self.pages_differ, self.rest_empty_in_both, self.rest_reads_group_page, self.idle_cores
+            "pairs: {} with different numbers of cores, {} of pages, {} without a rest, {} with a page that both sides reach; {} cores that do not run",
+            self.cores_differ, self.pages_differ, self.rest_empty_in_both, self.page_in_common, self.idle_cores
         )
         .unwrap();
         writeln!(o, "steps that changed the header beyond its count: {}", self.header_changed).unwrap();
@@ -180,8 +186,16 @@ pub fn pair(rng: &mut Rng, off: Option<Condition>) -> Option<Pair> {
     let group = cores.iter().fold(0, |all, k| all | 1 << k);
     let lowest = cores[cores.len() - 1] + 1;
     let own = 2 + rng.below(4);
+    // Numbers of cores and pages differ where they can, mostly.
     let number = |rng: &mut Rng| (lowest + rng.below(5 - lowest as u32) as usize, own + 1 + rng.below(5));
-    let ((cores1, pages1), (cores2, pages2)) = (number(rng), number(rng));
+    let (cores1, pages1) = number(rng);
+    let (mut cores2, mut pages2) = number(rng);
+    while cores2 == cores1 && lowest < 4 && !rng.chance(10) {
+        cores2 = number(rng).0;
+    }
+    while pages2 == pages1 && !rng.chance(10) {
+        pages2 = number(rng).1;
+    }
 
     let mut pages: Vec<u32> = (0..pages1.min(pages2)).collect();
     crate::sides::shuffle(rng, &mut pages);
@@ -193,8 +207,10 @@ pub fn pair(rng: &mut Rng, off: Option<Condition>) -> Option<Pair> {
         if !spoil(rng, &mut one, &side, &side, condition, None, far) {
             return None;
         }
-        if condition == Condition::GroupBeyond {
-            use_ports(&mut one, &side);
+        match condition {
+            Condition::GroupBeyond => use_ports(&mut one, &side),
+            Condition::GroupMixed => write_entries(rng, &mut one, &side, &pages[own as usize..], false),
+            _ => {}
         }
     }
     let mut map = vec![0; pages1 as usize];
@@ -257,9 +273,6 @@ fn others(rng: &mut Rng, board: &mut Board, group: &Side, map: &[u8], off: Optio
                 return None;
             }
             aim(rng, board, group, &side, condition);
-            if condition == Condition::RestBeyond {
-                use_ports(board, &side);
-            }
         }
     } else if off.is_some() {
         return None;
@@ -268,16 +281,7 @@ fn others(rng: &mut Rng, board: &mut Board, group: &Side, map: &[u8], off: Optio
     }
     // Cores that do not run may hold anything.
     for k in idle {
-        let all: Vec<u32> = (0..pages).collect();
-        let side = Side {
-            cores: vec![k],
-            first: all.clone(),
-            second: all.clone(),
-            writable: all.clone(),
-            fixed: Vec::new(),
-            reads: Vec::new(),
-        };
-        side.lay_idle(rng, board, k);
+        Side::lay_idle(rng, board, k, Style::Dense);
     }
     Some(())
 }
@@ -285,29 +289,39 @@ fn others(rng: &mut Rng, board: &mut Board, group: &Side, map: &[u8], off: Optio
 /// Pointers of the rest go to pages of the group, so that a condition that
 /// is off is made use of.
 fn aim(rng: &mut Rng, board: &mut Board, group: &Side, rest: &Side, condition: Condition) {
-    if condition == Condition::RestBeyond {
-        return;
-    }
     let pages = [group.data(), group.tables()].concat();
+    match condition {
+        Condition::RestBeyond => return use_ports(board, rest),
+        Condition::RestMixed => return write_entries(rng, board, rest, &pages, true),
+        _ => {}
+    }
     for &k in &rest.cores {
-        if condition == Condition::RestMixed {
-            // Registers 9 and 10 lead to entries; 8 and 11 to what they map.
-            let b = block(k);
-            for (to, entry) in [(8, 9), (11, 10)] {
-                board.t[b + to] = (board.t[b + entry] & 0xFFF) / 4 << 12 | 0x10;
-            }
-            for x in 1..8 {
-                board.t[b + x] = rng.pick(&pages) << 12 | 0xF8 << 4;
-            }
-            let program = [0xAD25_0000, 0xAD46_0000, 0xAD03_0000, 0xAD64_0000]; // sw r5 r9, r6 r10, r3 r8, r4 r11
-            let pc = board.t[b + PC];
-            if rest.data().contains(&(pc >> 12)) {
-                (0..).zip(program).for_each(|(n, i)| board.put(pc + 4 * n, i));
-            }
-            continue;
-        }
         for x in [9, 10, 13, 14] {
             board.t[block(k) + x] = rng.pick(&pages) << 12 | rng.pick(&[0, 0x10, 0x20, 0x100]);
+        }
+    }
+}
+
+/// Programs start with stores of entries for the pages given, by registers 9
+/// and 10, which lead to a page that is writable and table; then they use
+/// what these entries map.
+fn write_entries(rng: &mut Rng, board: &mut Board, side: &Side, pages: &[u32], store: bool) {
+    for &k in &side.cores {
+        let b = block(k);
+        for x in 5..7 {
+            if let Some(page) = any(rng, pages) {
+                board.t[b + x] = page << 12 | 0xF8 << 4;
+            }
+        }
+        for (to, entry) in [(8, 9), (11, 10)] {
+            board.t[b + to] = (board.t[b + entry] & 0xFFF) / 4 << 12 | 0x10;
+        }
+        let pc = board.t[b + PC];
+        if side.data().contains(&(pc >> 12)) {
+            let uses = if store { [0xAD03_0000, 0xAD64_0000] } else { [0x8D03_0000, 0x8D64_0000] };
+            // sw r5 r9, sw r6 r10, then sw or lw r3 r8 and r4 r11
+            let program = [0xAD25_0000, 0xAD46_0000, uses[0], uses[1]];
+            (0..).zip(program).for_each(|(n, i)| board.put(pc + 4 * n, i));
         }
     }
 }
@@ -466,7 +480,7 @@ pub fn lists(rng: &mut Rng, pair: Pair, terms: &Terms, figures: &mut Figures) ->
         figures.idle_cores += (course.board.cores() as u64) - (course.may_step.count_ones() as u64);
     }
     let common = |c: &Course| c.map.iter().zip(&c.rest_map).any(|(g, r)| *g != 0 && *r != 0);
-    figures.rest_reads_group_page += (common(&one) || common(&two)) as u64;
+    figures.page_in_common += (common(&one) || common(&two)) as u64;
 
     let user = terms.off.is_none();
     let group_steps = rng.pick(&[5, 20, 40, 80]);
@@ -555,23 +569,12 @@ fn choose(rng: &mut Rng, board: &Board, k: usize) -> [u32; 6] {
             }
         }
     }
-    last.filter(|_| !rng.chance(20)).unwrap_or_else(|| core_or_toward(rng, board, k, &held_walks(&board.t, block(k))))
-}
-
-fn held_walks(t: &[u32], b: usize) -> Vec<Walk> {
-    let mut all = Vec::new();
-    let mut n = t[b + WALKS];
-    while n != 0 {
-        let r = record(b, n);
-        all.push(Walk { first: t[r + 1], base: t[r + 2] });
-        n = t[r];
-    }
-    all
+    last.filter(|_| !rng.chance(20)).unwrap_or_else(|| core_or_toward(rng, board, k, &walks_of(&board.t, block(k))))
 }
 
 fn propose(rng: &mut Rng, board: &Board, k: usize) -> [u32; 6] {
     let (t, m, b, core) = (&board.t, &board.m, block(k), k as u32);
-    let walks = held_walks(t, b);
+    let walks = walks_of(t, b);
     match rng.below(20) {
         0..=11 => core_or_toward(rng, board, k, &walks),
         12..=14 if t[b + STORES] != 0 => [4, core, 0, 0, 0, 0],
@@ -662,7 +665,7 @@ fn garbage(rng: &mut Rng, board: &Board, k: usize) -> [u32; 6] {
     let kind = rng.below(5);
     // A walk of any core, nearly or as it is.
     let whose = rng.below(board.cores() as u32) as usize;
-    let walks = held_walks(&board.t, block(whose));
+    let walks = walks_of(&board.t, block(whose));
     let mut w = any(rng, &walks).unwrap_or(Walk { first: rng.word(), base: rng.word() });
     if rng.chance(40) {
         w.first ^= 1 << rng.below(32);
@@ -695,4 +698,17 @@ pub fn trial(seed: u32, pairs: u64, terms: &Terms) -> Figures {
         }
     }
     figures
+}
+
+/// The row of README.md for a condition that is off: pairs tried, pairs that
+/// break the claim and how, and pairs that break it otherwise than by a table
+/// byte where that does not end a pair.
+pub fn off_row(condition: Condition, strict: &Figures, past: &Figures) -> String {
+    let mut row = format!("| {} {} | {} | {} |", condition as u32 + 1, condition.text(), strict.pairs, strict.broken());
+    let hows = |f: &Figures| {
+        let all = BREAKS.iter().filter(|(kind, _)| f.breaks[*kind as usize] != 0);
+        all.map(|(kind, text)| format!("{text} {}", f.breaks[*kind as usize])).collect::<Vec<_>>().join("; ")
+    };
+    write!(row, " {} | {} | {} | {} |", hows(strict), past.pairs, past.broken(), hows(past)).unwrap();
+    row.replace("  ", " ")
 }

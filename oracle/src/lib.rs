@@ -7,6 +7,8 @@
 pub mod counts;
 pub mod demand3;
 pub mod generate;
+pub mod groups;
+pub mod groups_counts;
 pub mod isa;
 pub mod machine;
 pub mod program;

@@ -379,16 +379,21 @@ impl Side {
     }
 
     /// A core that does not run, in any mode, which may hold anything.
-    pub fn lay_idle(&self, rng: &mut Rng, board: &mut Board, k: usize) {
+    pub fn lay_idle(rng: &mut Rng, board: &mut Board, k: usize, style: Style) {
         let b = block(k);
-        self.lay_core(rng, board, Style::Dense, k);
+        let all: Vec<u32> = (0..board.pages()).collect();
+        let (first, second, writable) = (all.clone(), all.clone(), all);
+        let side = Side { cores: vec![k], first, second, writable, fixed: Vec::new(), reads: Vec::new() };
+        side.lay_core(rng, board, style, k);
         board.t[b + RUNNING] = 0;
         board.t[b + MODE] = rng.word();
         if rng.chance(30) {
             board.t[b + PTO] = rng.word();
         }
         let w = Walk::new(rng.below(1 << 20), rng.below(64), rng.below(3), rng.below(8), beyond(rng, board.pages()));
-        board.hold(k, w);
+        if style == Style::Dense || rng.chance(40) {
+            board.hold(k, w);
+        }
         board.t[b + PC] = rng.word();
     }
 

@@ -176,6 +176,43 @@ pub struct Sides {
     pub fails: Vec<Condition>,
 }
 
+impl Sides {
+    /// The ways by which a condition on pages fails: those that, for some
+    /// page at fault, are the only ones of their kind (writing, or table).
+    pub fn by(&self, pages: u32, condition: Condition) -> BTreeSet<Way> {
+        use Condition::*;
+        let mut all = BTreeSet::new();
+        let mut sole = |ways: BTreeSet<Way>| {
+            if ways.len() == 1 {
+                all.extend(ways);
+            }
+        };
+        let pick = |ways: &Ways, page: u32, what: fn(&Reached) -> bool| -> BTreeSet<Way> {
+            of_page(ways, page).filter(|r| what(r)).map(|r| r.way).collect()
+        };
+        let table: fn(&Reached) -> bool = |r| r.way.table();
+        let writable: fn(&Reached) -> bool = |r| r.writable();
+        let side = if matches!(condition, GroupBeyond | GroupMixed) { &self.group_ways } else { &self.rest_ways };
+        match condition {
+            GroupBeyond | RestBeyond => sole(side.iter().filter(|r| r.page >= pages).map(|r| r.way).collect()),
+            GroupMixed | RestMixed => {
+                for page in (0..pages).filter(|&page| map_byte(side, page) & 6 == 6) {
+                    sole(pick(side, page, writable));
+                    sole(pick(side, page, table));
+                }
+            }
+            RestWrites | RestTables => {
+                let what = if condition == RestWrites { writable } else { table };
+                for page in (0..pages).filter(|&page| map_byte(&self.group_ways, page) != 0) {
+                    sole(pick(side, page, what));
+                }
+            }
+            _ => {}
+        }
+        all
+    }
+}
+
 /// The cores whose bit a test picks.
 fn cores_where(t: &[u32], pick: impl Fn(usize, usize) -> bool) -> u32 {
     (0..t[CORES] as usize).filter(|&k| pick(k, block(k))).fold(0, |all, k| all | 1 << k)
