@@ -1,1 +1,5 @@
 pub mod Lists
+pub mod Marking
+pub mod Sets
+pub mod Passes
+pub mod Chains

@@ -3,7 +3,7 @@
 use mathlib.Core.Path.{_≡_, refl, sym, ap, ap₂, subst, _∙_}
 use mathlib.Core.Logic.{_⊎_, inl, inr, ⊎-elim, _≢_}
 use mathlib.Core.Bool.{Bool, true, false, _&&_, _||_, not, false≢true}
-use mathlib.Core.List.{List, [], _∷_, _++_, map, flatMap}
+use mathlib.Core.List.{List, [], _∷_, _++_, map, flatMap, append-assoc, append-nil}
 use Prim.Native.Nat.{ℕ, zero, suc, _<_, _≤_}
 use native.Mathlib.Omega.{arith}
 use native.Mathlib.Decide.{ℕ-discrete}
@@ -199,3 +199,39 @@ disjoint-in l r p d h g = clash (has p r) g (not-true _ (all-in (λ (x : ℕ). n
 pub each-append : {A : Type 0} (P : A → Type 0) (l r : List A) → Each P l → Each P r → Each P (l ++ r)
 each-append P [] r h g = g
 each-append P (x ∷ l) r h g = (h .0, each-append P l r (h .1) g)
+
+-- ---- laws as equations
+
+pub or-assoc : (a b c : Bool) → (a || b) || c ≡ a || (b || c)
+or-assoc true b c = refl
+or-assoc false b c = refl
+
+-- two truth values that follow from each other
+pub both-ways : (a b : Bool) → (a ≡ true → b ≡ true) → (b ≡ true → a ≡ true) → a ≡ b
+both-ways true b f g = sym (f refl)
+both-ways false true f g = g refl
+both-ways false false f g = refl
+
+pub flatMap-append : {A B : Type 0} (f : A → List B) (l r : List A) → flatMap f (l ++ r) ≡ flatMap f l ++ flatMap f r
+unfolding flatMap
+flatMap-append f [] r = refl
+flatMap-append f (x ∷ l) r = ap (λ (k : List _). f x ++ k) (flatMap-append f l r) ∙ sym (append-assoc (f x) (flatMap f l) (flatMap f r))
+
+pub flatMap-one : {A B : Type 0} (f : A → List B) (x : A) → flatMap f (x ∷ []) ≡ f x
+unfolding flatMap
+flatMap-one f x = append-nil (f x)
+
+pub has-append : (p : ℕ) (l r : List ℕ) → has p (l ++ r) ≡ has p l || has p r
+unfolding has
+has-append p [] r = refl
+has-append p (x ∷ l) r = ap (λ (t : Bool). eqb p x || t) (has-append p l r) ∙ sym (or-assoc (eqb p x) (has p l) (has p r))
+
+pub flatMap-none : {A B : Type 0} (f : A → List B) (l : List A) → ((x : A) → f x ≡ []) → flatMap f l ≡ []
+unfolding flatMap
+flatMap-none f [] h = refl
+flatMap-none f (x ∷ l) h = rw (h x) (flatMap-none f l h)
+
+pub each-flatMap : {A B : Type 0} (P : B → Type 0) (f : A → List B) (l : List A) → ((x : A) → Each P (f x)) → Each P (flatMap f l)
+unfolding flatMap
+each-flatMap P f [] h = tt
+each-flatMap P f (x ∷ l) h = each-append P (f x) (flatMap f l) (h x) (each-flatMap P f l h)
