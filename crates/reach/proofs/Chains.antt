@@ -4,17 +4,19 @@ use mathlib.Core.Path.{_≡_, refl, sym, ap, subst, _∙_}
 use mathlib.Core.Logic.{_≢_}
 use mathlib.Core.Bool.{Bool, true, false, _||_}
 use mathlib.Core.List.{List, [], _∷_, _++_, flatMap, append-assoc, append-nil}
-use Prim.Native.Nat.{ℕ, _+_, _-_, _/_, _%_, _<_, _≤_}
+use Prim.Native.Nat.{ℕ, _+_, _-_, _*_, _/_, _%_, _^_, _<_, _≤_}
 use native.Mathlib.Omega.{arith}
 use lib.Dec.{eqb, ltb}
-use lib.ListN.{length, getD}
+use lib.ListN.{length, getD, take, drop}
 use borrow.Author.Tests.{lt-ltb, le-ltb, eq-eqb, ne-eqb}
 use Rattle.word.specs.Word.{if_then_else_, isSet}
 use Rattle.layout.specs.Layout.{recordAt}
 use Rattle.layout.specs.Blocks.{block}
-use Rattle.records.specs.Records.{chain, chainAt, all, small, levelOf}
+use Rattle.records.specs.Records.{chain, chainAt, all, small, levelOf, walkNumbers, storeNumbers}
 use Rattle.records.proofs.Checking.{Checking, check-start, check-low, check-low-next, chain-step, chain-zero, chain-none}
+use Rattle.layout.proofs.Blocks.{span}
 use Rattle.tlb.specs.Walks.{baseAddress}
+use Rattle.tlb.specs.Steps.{originOf}
 use Rattle.reach.specs.Lists.{range}
 use Rattle.reach.specs.Marks.{Name, name, Marked, walkName, recordName, coreNames, memberNames, rootNames}
 use Rattle.reach.proofs.Marking.{marked-none, marked-then, namesTo}
@@ -73,15 +75,30 @@ module _ (n : ℕ) (f : ℕ → List Name) (b : List ℕ) (h : ℕ) (s : List �
     pub chain-out : k ≤ 0 → Marked n s e r (flatMap f (chainAt b h))
     chain-out z = chain-done (chain-none k b i (omega arith))
 
--- ---- a core of a group, and all of them
+-- ---- a block, a core of a group, and all of them
 
-pub core-in : (n : ℕ) (s e : List ℕ) (r : Bool) (g : ℕ) (t : List ℕ) (k : ℕ) → isSet g k ≡ true → Marked n s e r (coreNames (block t k)) → Marked n s e r (memberNames g t k)
-unfolding memberNames
-core-in n s e r g t k h A = rw h A
+pub block-names : (n : ℕ) (s e f g : List ℕ) (p q r : Bool) (b : List ℕ) (o : ℕ) → o ≡ originOf b → Marked n s e p (name 0 o 0 ∷ [])
+    → Marked n e f q (flatMap (recordName false b) (walkNumbers b)) → Marked n f g r (flatMap (recordName true b) (storeNumbers b)) → Marked n s g (p || (q || r)) (coreNames b)
+unfolding coreNames
+block-names n s e f g p q r b o z A B C = marked-then (subst (λ (v : ℕ). Marked n s e p (name 0 v 0 ∷ [])) z A) (marked-then B C)
 
-pub core-out : (n : ℕ) (s : List ℕ) (g : ℕ) (t : List ℕ) (k : ℕ) → isSet g k ≡ false → Marked n s s false (memberNames g t k)
+-- a block lent as a part of the tables
+pub part-block : (t : List ℕ) (k : ℕ) → take (32 + 256 * k + 256 - (32 + 256 * k)) (drop (32 + 256 * k) t) ≡ block t k
+unfolding block
+part-block t k = simp span
+
+pub core-in : (n : ℕ) (s e : List ℕ) (r : Bool) (g : ℕ) (t : List ℕ) (k v : ℕ) → v ≡ g / 2 ^ k → v % 2 ≡ 1
+    → Marked n s e r (coreNames (take (32 + 256 * k + 256 - (32 + 256 * k)) (drop (32 + 256 * k) t))) → Marked n s e r (memberNames g t k)
 unfolding memberNames
-core-out n s g t k h = rw h (marked-none n s)
+core-in n s e r g t k v z h A =
+    let i : isSet g k ≡ true = eq-eqb (g / 2 ^ k % 2) 1 (ap (λ (u : ℕ). u % 2) (sym z) ∙ h) in
+    rw i (subst (λ (b : List ℕ). Marked n s e r (coreNames b)) (part-block t k) A)
+
+pub core-out : (n : ℕ) (s : List ℕ) (g : ℕ) (t : List ℕ) (k v : ℕ) → v ≡ g / 2 ^ k → v % 2 ≢ 1 → Marked n s s false (memberNames g t k)
+unfolding memberNames
+core-out n s g t k v z h =
+    let i : isSet g k ≡ false = ne-eqb (g / 2 ^ k % 2) 1 (λ f. h (ap (λ (u : ℕ). u % 2) z ∙ f)) in
+    rw i (marked-none n s)
 
 pub cores-end : (n : ℕ) (s e : List ℕ) (r : Bool) (g : ℕ) (t : List ℕ) (i k : ℕ) → i ≡ k → Marked n s e r (namesTo (memberNames g t) i) → Marked n s e r (rootNames g t k)
 unfolding rootNames namesTo

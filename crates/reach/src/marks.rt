@@ -1,9 +1,11 @@
 // Sets of pages as marks in one array of bytes, and the table pages that are read into it (specs/Marks.antt).
 ghost use mathlib.Core.Path.{_≡_};
-ghost use mathlib.Core.List.{[], _∷_, map};
+ghost use mathlib.Core.List.{[], _∷_};
+ghost use mathlib.Core.List as lists;
 ghost use Rattle.tlb.specs.declared.Entry.{Entry};
 ghost use Prim.Native.Nat.{_+_, _*_, _<_, _≤_};
 ghost use lib.ListN.{length};
+ghost use Rattle.word.specs.Word.{flag};
 ghost use Rattle.reach.specs.Lists.{range};
 ghost use Rattle.reach.specs.Marks as x;
 
@@ -85,4 +87,35 @@ pub(crate) fn pass(s: &mut [u8], m: &[u8], pages: u32, kind: u32) -> bool
         p += 1;
     }
     beyond
+}
+
+// A truth value as a bit.
+fn bit(b: bool) -> u8
+    ensures { λ r. ⌜ (r ≡ flag b) × (r < 2) ⌝ }
+{
+    if b { 1 } else { 0 }
+}
+
+// The map's byte of page p.
+fn map_byte(s: &[u8], p: u32) -> u8
+    requires { ⌜ (length (now s) ≡ 24576) × (p < 4096) ⌝ }
+    ensures { λ r. ⌜ r ≡ x.byteOf (now (s .entry)) p ⌝ }
+{
+    let at = (20480 + p) as usize;
+    let table = is_marked(s, 0, p) | is_marked(s, 1, p);
+    let data = is_marked(s, 2, p);
+    bit(table) * 2 + bit(data) + bit(s[at] == 1) * 4
+}
+
+// Writes the map.
+pub(crate) fn write_map(map: &mut [u8], s: &[u8], pages: u32)
+    requires { ⌜ (length (now s) ≡ 24576) × (pages ≤ 4096) × (length (now map) ≡ pages) ⌝ }
+    ensures { λ _. ⌜ now (map .exit) ≡ lists.map (x.byteOf (now (s .entry))) (range pages) ⌝ }
+{
+    let mut p: u32 = 0;
+    while p < pages {
+        let i = p as usize;
+        map[i] = map_byte(s, p);
+        p += 1;
+    }
 }
