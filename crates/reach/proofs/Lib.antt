@@ -3,3 +3,4 @@ pub mod Marking
 pub mod Sets
 pub mod Passes
 pub mod Chains
+pub mod Names
