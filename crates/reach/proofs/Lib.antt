@@ -4,3 +4,4 @@ pub mod Sets
 pub mod Passes
 pub mod Chains
 pub mod Names
+pub mod Low
