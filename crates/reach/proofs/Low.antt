@@ -59,6 +59,7 @@ entry-low p m a y b = go (leb (a + 4) (length m))
     word : In y (namedBy p (Word (bytesAt 4 m a))) → y < 2 ^ 20
     word = if-both (λ (l : List ℕ). In y l → y < 2 ^ 20) (pteP (bytesAt 4 m a) && p (pteR (bytesAt 4 m a))) (pteBa (bytesAt 4 m a) ∷ []) []
         (λ _ h. ⊎-elim (λ e. omega (arith, bytes-lt 4 m a b)) (λ z. in-none y z) (in-cases y (pteBa (bytesAt 4 m a)) [] h)) (λ _ h. in-none y h)
+
     go : (t : Bool) → In y (namedBy p (if t then Word (bytesAt 4 m a) else Missing)) → y < 2 ^ 20
     go true h = word h
     go false h = in-none y h

@@ -35,9 +35,9 @@ level-is : (l k : ℕ) → k ≤ 2 → ltb l 3 && eqb (2 - l) k ≡ eqb l (2 - k
 level-is l k h =
     both-ways _ _
     (λ e.
-      let p = ltb-true l 3 (and-left (ltb l 3) (eqb (2 - l) k) e) in
-      let q = eqb-true (2 - l) k (and-right (ltb l 3) (eqb (2 - l) k) e) in
-      eq-eqb l (2 - k) (omega arith))
+    let p = ltb-true l 3 (and-left (ltb l 3) (eqb (2 - l) k) e) in
+    let q = eqb-true (2 - l) k (and-right (ltb l 3) (eqb (2 - l) k) e) in
+    eq-eqb l (2 - k) (omega arith))
     (λ e. let p = eqb-true l (2 - k) e in and-both (ltb l 3) (eqb (2 - l) k) (lt-ltb l 3 (omega arith)) (eq-eqb (2 - l) k (omega arith)))
 
 walk-pages : (q : Name → Bool) (first second : ℕ) → pagesWith q (walkName first second) ≡ (if ltb (levelOf first) 3 && q (name (2 - levelOf first) second (first % 2)) then second ∷ [] else [])

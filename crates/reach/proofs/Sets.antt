@@ -82,23 +82,23 @@ plain-place k x y w p h =
     (λ f. let g = eqb-true (place y) (8192 * k + 4096 + x) f in and-both _ _ (eq-eqb (y .kind) k (omega arith)) (eq-eqb x (y .page) (omega arith)))
     (or-cases _ _ e))
     (λ e.
-      let f = eqb-true (y .kind) k (and-left _ _ e) in
-      let g = eqb-true x (y .page) (and-right (eqb (y .kind) k) _ e) in
-      decided (ℕ-discrete (y .write) 0)
-      (λ z. or-left _ _ (eq-eqb (place y) (8192 * k + x) (omega arith)))
-      (λ z. or-right (eqb (place y) (8192 * k + x)) _ (eq-eqb (place y) (8192 * k + 4096 + x) (omega arith))))
+    let f = eqb-true (y .kind) k (and-left _ _ e) in
+    let g = eqb-true x (y .page) (and-right (eqb (y .kind) k) _ e) in
+    decided (ℕ-discrete (y .write) 0)
+    (λ z. or-left _ _ (eq-eqb (place y) (8192 * k + x) (omega arith)))
+    (λ z. or-right (eqb (place y) (8192 * k + x)) _ (eq-eqb (place y) (8192 * k + 4096 + x) (omega arith))))
 
 written-place : (k x : ℕ) (y : Name) → y .write < 2 → y .page < 4096 → x < 4096 → eqb (place y) (8192 * k + 4096 + x) ≡ written k y && eqb x (y .page)
 written-place k x y w p h =
     both-ways _ _
     (λ e.
-      let g = eqb-true (place y) (8192 * k + 4096 + x) e in
-      and-both (written k y) _ (and-both (eqb (y .kind) k) _ (eq-eqb (y .kind) k (omega arith)) (eq-eqb (y .write) 1 (omega arith))) (eq-eqb x (y .page) (omega arith)))
+    let g = eqb-true (place y) (8192 * k + 4096 + x) e in
+    and-both (written k y) _ (and-both (eqb (y .kind) k) _ (eq-eqb (y .kind) k (omega arith)) (eq-eqb (y .write) 1 (omega arith))) (eq-eqb x (y .page) (omega arith)))
     (λ e.
-      let f = eqb-true (y .kind) k (and-left (eqb (y .kind) k) (eqb (y .write) 1) (and-left (written k y) _ e)) in
-      let v = eqb-true (y .write) 1 (and-right (eqb (y .kind) k) (eqb (y .write) 1) (and-left (written k y) _ e)) in
-      let g = eqb-true x (y .page) (and-right (written k y) _ e) in
-      eq-eqb (place y) (8192 * k + 4096 + x) (omega arith))
+    let f = eqb-true (y .kind) k (and-left (eqb (y .kind) k) (eqb (y .write) 1) (and-left (written k y) _ e)) in
+    let v = eqb-true (y .write) 1 (and-right (eqb (y .kind) k) (eqb (y .write) 1) (and-left (written k y) _ e)) in
+    let g = eqb-true x (y .page) (and-right (written k y) _ e) in
+    eq-eqb (place y) (8192 * k + 4096 + x) (omega arith))
 
 shuffle : (p q a b : Bool) → (p || a) || (q || b) ≡ (a || b) || (p || q)
 shuffle true q true b = refl
@@ -131,9 +131,9 @@ module _ (n k x : ℕ) (few : n ≤ 4096) (low : x < n) where
   mark-marked s y long proper =
       tested (ltb (y .page) n)
       (λ e.
-        let p = ltb-true (y .page) n e in
-        rw (e, at-set s (place y) (8192 * k + x) (omega arith), at-set s (place y) (8192 * k + 4096 + x) (omega arith), ← plain-place k x y (proper .1) (omega arith) (omega arith))
-        (shuffle (eqb (place y) (8192 * k + x)) (eqb (place y) (8192 * k + 4096 + x)) (eqb (getD s (8192 * k + x) 0) 1) (isWritten s k x)))
+      let p = ltb-true (y .page) n e in
+      rw (e, at-set s (place y) (8192 * k + x) (omega arith), at-set s (place y) (8192 * k + 4096 + x) (omega arith), ← plain-place k x y (proper .1) (omega arith) (omega arith))
+      (shuffle (eqb (place y) (8192 * k + x)) (eqb (place y) (8192 * k + 4096 + x)) (eqb (getD s (8192 * k + x) 0) 1) (isWritten s k x)))
       (λ e. let p = ltb-false (y .page) n e in rw e (or-none (isMarked s k x) _ (and-none (ofKind k y) (eqb x (y .page)) (ne-eqb x (y .page) (omega arith)))))
 
   mark-written : (s : List ℕ) (y : Name) → length s ≡ 24576 → Proper y → isWritten (mark n s y) k x ≡ isWritten s k x || (written k y && eqb x (y .page))
@@ -141,8 +141,8 @@ module _ (n k x : ℕ) (few : n ≤ 4096) (low : x < n) where
   mark-written s y long proper =
       tested (ltb (y .page) n)
       (λ e.
-        let p = ltb-true (y .page) n e in
-        rw (e, at-set s (place y) (8192 * k + 4096 + x) (omega arith), ← written-place k x y (proper .1) (omega arith) (omega arith)) (or-turn (eqb (place y) (8192 * k + 4096 + x)) (isWritten s k x)))
+      let p = ltb-true (y .page) n e in
+      rw (e, at-set s (place y) (8192 * k + 4096 + x) (omega arith), ← written-place k x y (proper .1) (omega arith) (omega arith)) (or-turn (eqb (place y) (8192 * k + 4096 + x)) (isWritten s k x)))
       (λ e. let p = ltb-false (y .page) n e in rw e (or-none (isWritten s k x) _ (and-none (written k y) (eqb x (y .page)) (ne-eqb x (y .page) (omega arith)))))
 
   -- ---- a list of them

@@ -1,59 +1,58 @@
+-- `reach::fill` meets its contract: proofs/Closing.antt ties the marks to what is reached.
+-- Assumes nothing.
+use Rattle.reach.proofs.Closing.{zeros, zeros-long, zeros-blank, filled-beyond, filled-map}
+use Rattle.reach.proofs.Low.{Words, core-linked}
+use Rattle.reach.proofs.Marking.{marked-long}
+use Rattle.tables.proofs.Lift.{header}
+use Rattle.word.proofs.Bytes.{Bytes}
+use denote.Ref.{now}
+use native.Mathlib.Omega.{arith}
+use mathlib.Core.Path.{_∙_}
 use borrow.Author.Needs.{needs}
 use Rattle.reach.proofs.fill.Statement.{statement}
 use Rattle.reach.proofs.fill.Tie as tie
-use Rattle.reach.proofs.fill.Reads as reads
-use Rattle.reach.proofs.fill.Lts as lts
-use Rattle.reach.proofs.marks.pass.Reads as pass-reads
-use Rattle.reach.proofs.marks.write_map.Reads as write-map-reads
-use Rattle.reach.proofs.roots.mark_cores.Reads as mark-cores-reads
 
--- src/lib.rt:29:17
 shared-slice-read-cores : tie.Need-shared-slice-read-cores
-shared-slice-read-cores c = ?
+shared-slice-read-cores c = omega (arith, header _ _ (c .before .before .before .before .pre .0) .long)
 
--- src/lib.rt:30:17
 shared-slice-read-pages : tie.Need-shared-slice-read-pages
-shared-slice-read-pages c = ?
+shared-slice-read-pages c = omega (arith, header _ _ (c .before .before .before .before .before .pre .0) .long)
 
--- src/lib.rt:32:35
 slice-aggregate-mark-cores : tie.Need-slice-aggregate-mark-cores
 slice-aggregate-mark-cores c = search needs
 
--- src/lib.rt:32:9
 mark-cores-requires : tie.Need-mark-cores-requires
-mark-cores-requires c κs = ?
+mark-cores-requires c κs = let e = c .before .before .before .before .before .before in let h = header _ _ (e .pre .0) in ((zeros-long, h .few-pages, h .few-cores, omega (arith, h .long)), core-linked _ (now (e .args .m)) (e .pre .0))
 
--- src/lib.rt:33:31
 slice-aggregate-pass : tie.Need-slice-aggregate-pass
 slice-aggregate-pass c = search needs
 
--- src/lib.rt:33:9
 pass-requires : tie.Need-pass-requires
-pass-requires c κs = ?
+pass-requires c κs = let h = header _ _ (c .before .before .before .before .before .before .before .before .before .pre .0) in ((marked-long (c .before .before .mark-cores .ensures) ∙ zeros-long, h .few-pages, omega arith), h .bytes)
 
--- src/lib.rt:34:29
 slice-aggregate-pass-2 : tie.Need-slice-aggregate-pass-2
 slice-aggregate-pass-2 c = search needs
 
--- src/lib.rt:34:9
 pass-requires-2 : tie.Need-pass-requires-2
-pass-requires-2 c κs = ?
+pass-requires-2 c κs = let h = header _ _ (c .before .before .before .before .before .before .before .before .before .before .before .before .pre .0) in ((marked-long (c .before .before .pass .ensures) ∙ marked-long (c .before .before .before .before .before .mark-cores .ensures) ∙ zeros-long, h .few-pages, omega arith), h .bytes)
 
--- src/lib.rt:35:27
 slice-aggregate-write-map : tie.Need-slice-aggregate-write-map
 slice-aggregate-write-map c = search needs
 
--- src/lib.rt:35:5
 write-map-requires : tie.Need-write-map-requires
-write-map-requires c κs = ?
+write-map-requires c κs = let e = c .before .before .before .before .before .before .before .before .before .before .before .before .before .before .before .before in let h = header _ _ (e .pre .0) in (marked-long (c .before .before .before .pass2 .ensures) ∙ marked-long (c .before .before .before .before .before .before .pass .ensures) ∙ marked-long (c .before .before .before .before .before .before .before .before .before .mark-cores .ensures) ∙ zeros-long, h .few-pages, e .pre .1)
 
--- src/lib.rt:23:1
 same-length : tie.Need-same-length
 same-length c = search needs
 
--- src/lib.rt:23:1
 returns : tie.Need-returns
-returns c = ?
+returns c =
+    let e = c .before .before .before .before .before .before .before .before .before .before .before .before .before .before .before .before .before .before .before in
+    let words : Words (now (e .args .t)) = λ i. omega (arith, c .before .before .before .before .before .before .before .before .before .before .before .before .before .before .before .before .before .before .shared-slice-known .given i) in
+    let bytes : Bytes (now (e .args .m)) = λ i. omega (arith, c .before .before .before .before .before .before .before .before .before .before .before .before .before .before .before .before .before .shared-slice-known2 .given i) in (
+      filled-beyond (now (e .args .t)) (now (e .args .m)) (e .args .group) (e .pre .0) words bytes zeros zeros-long zeros-blank _ _ _ _ _ _ (c .before .before .before .before .before .before .before .before .before .before .before .before .mark-cores .ensures) (c .before .before .before .before .before .before .before .before .before .pass .ensures) (c .before .before .before .before .before .before .pass2 .ensures),
+      filled-map (now (e .args .t)) (now (e .args .m)) (e .args .group) (e .pre .0) words bytes zeros zeros-long zeros-blank _ _ _ _ _ _ (c .before .before .before .before .before .before .before .before .before .before .before .before .mark-cores .ensures) (c .before .before .before .before .before .before .before .before .before .pass .ensures) (c .before .before .before .before .before .before .pass2 .ensures) _ (c .before .before .write-map .ensures),
+    )
 
 pub fill-spec : {M : Type 1} → statement M
 fill-spec =

@@ -1,63 +1,52 @@
+-- `reach::reach` meets its contract.
+-- Assumes nothing.
+use Rattle.reach.proofs.Answers.{unsound, other-map, no-group, strayed, stayed}
+use Rattle.tables.proofs.Lift.{header}
+use borrow.Author.Tests.{not-true, not-false}
+use native.Mathlib.Omega.{arith}
+use mathlib.Core.Path.{sym, _∙_}
 use borrow.Author.Needs.{needs}
 use Rattle.reach.proofs.reach.Statement.{statement}
 use Rattle.reach.proofs.reach.Tie as tie
-use Rattle.reach.proofs.reach.Reads as reads
-use Rattle.reach.proofs.reach.Lts as lts
-use Rattle.reach.proofs.fill.Reads as fill-reads
-use Rattle.reach.proofs.is_group.Reads as is-group-reads
-use Rattle.tables.proofs.sound.Reads as sound-reads
 
--- src/lib.rt:52:9
 sound-requires : tie.Need-sound-requires
 sound-requires c κs = search needs
 
--- src/lib.rt:53:9
 returns : tie.Need-returns
-returns c = ?
+returns c = unsound _ _ _ _ _ (c .before .sound .ensures) (not-true _ (c .if1 .taken))
 
--- src/lib.rt:55:21
 shared-slice-read-if2 : tie.Need-shared-slice-read-if2
-shared-slice-read-if2 c = ?
+shared-slice-read-if2 c = omega (arith, header _ _ (sym (c .before .before .sound .ensures) ∙ not-false _ (c .before .if1 .left)) .long)
 
--- src/lib.rt:55:21
 cast-if2 : tie.Need-cast-if2
-cast-if2 c = ?
+cast-if2 c = omega (arith, header _ _ (sym (c .before .before .sound .ensures) ∙ not-false _ (c .before .if1 .left)) .few-pages)
 
--- src/lib.rt:56:9
 returns-2 : tie.Need-returns-2
-returns-2 c = ?
+returns-2 c = other-map _ _ _ _ (sym (c .before .before .before .sound .ensures) ∙ not-false _ (c .before .before .if1 .left)) (c .if2 .taken)
 
--- src/lib.rt:58:25
 shared-slice-read-is-group : tie.Need-shared-slice-read-is-group
-shared-slice-read-is-group c = ?
+shared-slice-read-is-group c = omega (arith, header _ _ (sym (c .before .before .before .before .sound .ensures) ∙ not-false _ (c .before .before .before .if1 .left)) .long)
 
--- src/lib.rt:58:9
 is-group-requires : tie.Need-is-group-requires
-is-group-requires c κs = ?
+is-group-requires c κs = header _ _ (sym (c .before .before .before .before .sound .ensures) ∙ not-false _ (c .before .before .before .if1 .left)) .few-cores
 
--- src/lib.rt:59:9
 returns-3 : tie.Need-returns-3
-returns-3 c = ?
+returns-3 c = no-group _ _ _ _ (sym (c .before .before .before .before .before .before .sound .ensures) ∙ not-false _ (c .before .before .before .before .before .if1 .left)) (c .before .before .before .if2 .left) _ (c .before .is-group .ensures) (not-true _ (c .if3 .taken))
 
--- src/lib.rt:61:8
 fill-requires : tie.Need-fill-requires
-fill-requires c κs = ?
+fill-requires c κs = ((sym (c .before .before .before .before .before .before .before .sound .ensures) ∙ not-false _ (c .before .before .before .before .before .before .if1 .left)), c .before .before .before .before .if2 .left)
 
--- src/lib.rt:62:9
 same-length : tie.Need-same-length
 same-length c = search needs
 
--- src/lib.rt:62:9
 returns-4 : tie.Need-returns-4
-returns-4 c = ?
+returns-4 c = strayed _ _ _ _ (sym (c .before .before .before .before .before .before .before .before .before .before .before .sound .ensures) ∙ not-false _ (c .before .before .before .before .before .before .before .before .before .before .if1 .left)) (c .before .before .before .before .before .before .before .before .if2 .left) _ (c .before .before .before .before .before .before .is-group .ensures) (not-false _ (c .before .before .before .before .before .if3 .left)) _ (c .before .before .before .fill .ensures .0) _ (c .before .before .before .fill .ensures .1) (c .if4 .taken)
 
--- src/lib.rt:48:1
 same-length-2 : tie.Need-same-length-2
 same-length-2 c = search needs
 
--- src/lib.rt:48:1
 returns-5 : tie.Need-returns-5
-returns-5 c = ?
+returns-5 c = stayed _ _ _ _ (sym (c .before .before .before .before .before .before .before .before .before .before .before .sound .ensures) ∙ not-false _ (c .before .before .before .before .before .before .before .before .before .before .if1 .left)) (c .before .before .before .before .before .before .before .before .if2 .left) _ (c .before .before .before .before .before .before .is-group .ensures) (not-false _ (c .before .before .before .before .before .if3 .left)) _ (c .before .before .before .fill .ensures .0) _ (c .before .before .before .fill .ensures .1) (c .if4 .left)
 
 pub reach-spec : {M : Type 1} → statement M
 reach-spec =

@@ -28,7 +28,7 @@ loop-less : tie.Need-loop-less Inv-loop μ-loop
 loop-less c = omega arith
 
 loop-again : tie.Need-loop-again Inv-loop μ-loop
-loop-again c = 
+loop-again c =
     let e = c .before .before .before .before .before .before .before .before in
     (omega arith, pass-next _ _ _ _ _ _ (e .args .kind) _ (c .before .before .before .before .before .loop .p) (e .pre .0 .1) (e .pre .0 .2) (c .before .before .before .before .loop-test .taken) (e .pre .0 .0) (c .before .before .before .before .before .loop .inv .1) (c .before .before .scan-marked .ensures))
 
