@@ -37,7 +37,7 @@ pub fn fill(t: &[u32], m: &[u8], group: u32, map: &mut [u8]) -> bool
 }
 
 // Whether a number stands for a group of cores.
-fn is_group(group: u32, cores: u32) -> bool
+pub fn is_group(group: u32, cores: u32) -> bool
     requires { ⌜ cores ≤ 4 ⌝ }
     ensures { λ r. ⌜ r ≡ x.isGroup group cores ⌝ }
 {
