@@ -50,7 +50,7 @@ pub record Marked (n : ℕ) (s e : List ℕ) (r : Bool) (l : List Name) : Type 0
   pub left : e ≡ marks n s l
   pub beyond : r ≡ strays n l
 
--- page x is in set k; and with the write right
+-- page x is in set k with the write right; with or without it
 abbrev pub isWritten : List ℕ → ℕ → ℕ → Bool
 isWritten s k x = eqb (getD s (8192 * k + 4096 + x) 0) 1
 
