@@ -10,6 +10,7 @@ use native.Mathlib.Omega.{arith}
 use borrow.Author.Tests.{ltb-true, lt-ltb}
 use Rattle.word.specs.Word.{if_then_else_}
 use Rattle.word.proofs.Bytes.{Bytes}
+use Rattle.word.proofs.Words.{Words}
 use Rattle.layout.specs.Layout.{spr, pto}
 use Rattle.layout.specs.Blocks.{block}
 use Rattle.records.proofs.Counts.{and-left, and-right, and-both}
@@ -37,7 +38,6 @@ use Rattle.machine.specs.Decide.{ifAllowed, toSend, toEnd, byStep, decid
 use Rattle.machine.proofs.Forms.{formed, step-formed}
 use Rattle.machine.proofs.Fitting.{quarters, has}
 use Rattle.apic.specs.Vectors.{isVector}
-use Rattle.apic.proofs.Kept.{Words}
 use Rattle.apic.proofs.Least.{lowest-vector}
 use Rattle.apic.proofs.Sendings.{sending-vect}
 use Rattle.ioapic.proofs.Blocks.{block-words}
@@ -71,7 +71,7 @@ module _ (t m : List ℕ) (e : sound t (length m) ≡ true) where
     step-ok (kind.Core k wI wR) f = plan-ok k _ f (core-plan (block t k) m (ioregselOf t) (iowinOf t) wI wR (quarters t (length m) e))
     step-ok (kind.TlbCreate k va) f =
         let g = and-left (ltb k (coresOf t)) _ f in
-        plan-ok k _ g (create-plan (block t k) m va (block-words t k (has t (length m) e k g) ws (spr + pto)))
+        plan-ok k _ g (create-plan (block t k) m va (block-words t k ws (spr + pto)))
     step-ok (kind.TlbExtend k w) f = plan-ok k _ f (extend-plan (block t k) m w (core-sound t (length m) e k (ltb-true k (coresOf t) f)) bs)
     step-ok (kind.TlbAccessed k w) f = plan-ok k _ f (accessed-plan (block t k) m w)
     step-ok (kind.StoreBuffer k) f = plan-ok k _ f (drain-plan (length m) (block t k) (core-sound t (length m) e k (ltb-true k (coresOf t) f)))

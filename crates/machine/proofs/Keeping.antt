@@ -15,6 +15,7 @@ use native.Mathlib.Omega.{arith}
 use borrow.Author.Tests.{ltb-true}
 use Rattle.word.specs.Word.{if_then_else_}
 use Rattle.word.proofs.Bytes.{Bytes}
+use Rattle.word.proofs.Words.{Words}
 use Rattle.word.proofs.Tests.{true-false}
 use Rattle.layout.specs.Layout as at
 use Rattle.layout.specs.Blocks.{block}
@@ -34,7 +35,7 @@ use Rattle.apic.specs.declared.active.Sending.the-variants as sent
 use Rattle.apic.specs.Vectors.{withBit, isVector}
 use Rattle.apic.specs.LocalApic.{idOf, fixed, irr}
 use Rattle.apic.specs.Active.{sending, pendingEoi, idle, reached, eoiSent, mayInit, mayStart, initCore, startCore}
-use Rattle.apic.proofs.Kept.{Words, Kept, Passive, Reset, kept-all, kept-if, kept-vector, kept-idle, kept-reached, kept-initCore, kept-startCore}
+use Rattle.apic.proofs.Kept.{Kept, Passive, Reset, kept-all, kept-if, kept-vector, kept-idle, kept-reached, kept-initCore, kept-startCore}
 use Rattle.apic.proofs.Least.{lowest-vector}
 use Rattle.apic.proofs.Sendings.{sending-vect}
 use Rattle.ioapic.specs.Blocks.{onBlock, onBlocks}
@@ -291,7 +292,7 @@ module _ (t m : List ℕ) (e : sound t (length m) ≡ true) where
     action-keeps (kind.Core k wI wR) f = plan-fine k _ f (core-plan (block t k) m (ioregselOf t) (iowinOf t) wI wR (quarters t (length m) e))
     action-keeps (kind.TlbCreate k va) f =
         let g = and-left (ltb k (coresOf t)) _ f in
-        plan-fine k _ g (create-plan (block t k) m va (block-words t k (has t (length m) e k g) ws (at.spr + at.pto)))
+        plan-fine k _ g (create-plan (block t k) m va (block-words t k ws (at.spr + at.pto)))
     action-keeps (kind.TlbExtend k w) f = plan-fine k _ f (extend-plan (block t k) m w (core-sound t (length m) e k (ltb-true k (coresOf t) f)) bs)
     action-keeps (kind.TlbAccessed k w) f = plan-fine k _ f (accessed-plan (block t k) m w)
     action-keeps (kind.StoreBuffer k) f = plan-fine k _ f (drain-plan (length m) (block t k) (core-sound t (length m) e k (ltb-true k (coresOf t) f)))

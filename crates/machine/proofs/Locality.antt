@@ -9,6 +9,7 @@ use mathlib.Core.Logic.{_⊎_, inl, inr, _≢_}
 use Prim.Native.Nat.{ℕ, _+_, _*_, _<_, _≤_}
 use lib.ListN.{length, getD}
 use Rattle.word.proofs.Bytes.{Bytes}
+use Rattle.word.proofs.Words.{Words}
 use Rattle.layout.specs.Layout.{spr, pto}
 use Rattle.layout.specs.Blocks.{block}
 use Rattle.records.specs.declared.Walk.{Walk}
@@ -16,7 +17,6 @@ use Rattle.records.specs.Records.{stores, walks}
 use Rattle.tables.specs.Views.{coresOf, ioregselOf, iowinOf}
 use Rattle.tables.specs.Sound.{sound}
 use Rattle.tables.proofs.Lift.{core-fits, core-sound}
-use Rattle.apic.proofs.Kept.{Words}
 use Rattle.ioapic.proofs.Blocks.{block-words}
 use Rattle.steps.specs.declared.Step.{Step}
 use Rattle.steps.specs.declared.Step.the-variants as kind
@@ -78,7 +78,7 @@ module _ (t m : List ℕ) (e : sound t (length m) ≡ true) (ws : Words t) (bs :
   done : {x : Step} (o : Of k x) → MayBeDone (length m) (block t k) (plan o t m)
   unfolding plan
   done (core v w) = core-plan (block t k) m (ioregselOf t) (iowinOf t) v w (quarters t (length m) e)
-  done (create va) = create-plan (block t k) m va (block-words t k (core-fits t (length m) e k h) ws (spr + pto))
+  done (create va) = create-plan (block t k) m va (block-words t k ws (spr + pto))
   done (extend w) = extend-plan (block t k) m w (core-sound t (length m) e k h) bs
   done (accessed w) = accessed-plan (block t k) m w
   done drain = drain-plan (length m) (block t k) (core-sound t (length m) e k h)
