@@ -1,11 +1,10 @@
 -- The operations on records leave words words; what is held is words, and so is a sound store.
 -- Assumes nothing.
-use mathlib.Core.Path.{_≡_, refl, subst}
+use mathlib.Core.Path.{_≡_, refl, sym, subst}
 use mathlib.Core.Logic.{⊎-elim}
 use mathlib.Core.Bool.{Bool, true, false}
 use mathlib.Core.List.{List, [], _∷_, map}
 use Prim.Native.Nat.{ℕ, suc, _+_, _^_, _≤_, _<_}
-use native.Mathlib.Nat.{pow-le-pow-right}
 use native.Mathlib.Omega.{arith}
 use lib.ListN.{getD, set}
 use lib.Dec.{ltb, leb}
@@ -18,7 +17,7 @@ use Rattle.records.specs.declared.Flush.{Flush}
 use Rattle.records.specs.Records.{all, among, walks, walkIn, storeNumbers, walkNumbers, goes, moved, release, insert, endOf, putStore, takeStore, addWalk, sweep, dropWalks}
 use Rattle.records.specs.Contents.{ioPort, there, allThere, storeSound}
 use Rattle.records.proofs.Counts.{and-left, and-right, and-both}
-use Rattle.records.proofs.Facts.{StoreFacts, or-cases, store-facts, all-among}
+use Rattle.records.proofs.Facts.{or-cases, store-facts, all-among}
 
 -- ---- the operations
 
@@ -102,15 +101,16 @@ place-lt n a l h =
     (or-cases (ioPort a) _ p))
     (or-cases (ltb a n) _ h)
 
-pub store-words : (n : ℕ) (s : Store) → n ≤ 2 ^ 32 → storeSound n s ≡ true → StoreWords s
-store-words n s l e = ⊎-elim (λ p. of 0 p (omega arith)) (⊎-elim (λ p. of 1 p (omega arith)) (λ p. of 3 p (omega arith))) (F .wide)
-  where
-    F : StoreFacts n s
-    F = store-facts n s e
+module _ (n : ℕ) (s : Store) (e : storeSound n s ≡ true) where
+  by-width : (P : ℕ → Type 0) → P 1 → P 2 → P 4 → P (s .width)
+  by-width P p q r =
+      ⊎-elim (λ f. subst P (sym f) p) (⊎-elim (λ f. subst P (sym f) q) (λ f. subst P (sym f) r)) (store-facts n s e .wide)
 
-    of : (k : ℕ) → s .width ≡ suc k → k < 4 → StoreWords s
-    of k p c =
-        let h : allThere (suc k) n (s .address) ≡ true = subst (λ (x : ℕ). allThere x n (s .address) ≡ true) p (F .inside) in
-        let v : s .value < 256 ^ suc k = subst (λ (x : ℕ). s .value < 256 ^ x) p (F .fits) in
-        let q : 256 ^ suc k ≤ 256 ^ 4 = pow-le-pow-right {n = 256} (omega arith) {i = suc k} {j = 4} (omega arith) in
-        (place-lt n (s .address) l (and-left (there n (s .address)) _ h), omega arith, omega arith)
+  pub value-lt : s .value < 2 ^ 32
+  value-lt = by-width (λ (d : ℕ). s .value < 256 ^ d → s .value < 2 ^ 32) (λ h. omega arith) (λ h. omega arith) (λ h. omega arith) (store-facts n s e .fits)
+
+  pub store-words : n ≤ 2 ^ 32 → StoreWords s
+  store-words l =
+      let first : (d : ℕ) → allThere (suc d) n (s .address) ≡ true → s .address < 2 ^ 32 = λ d h. place-lt n (s .address) l (and-left (there n (s .address)) _ h) in
+      let address : s .address < 2 ^ 32 = by-width (λ (d : ℕ). allThere d n (s .address) ≡ true → s .address < 2 ^ 32) (first 0) (first 1) (first 3) (store-facts n s e .inside) in
+      (address, value-lt, by-width (λ (d : ℕ). d < 2 ^ 32) (omega arith) (omega arith) (omega arith))
