@@ -6,3 +6,5 @@ pub mod Keeping
 pub mod Running
 pub mod Locality
 pub mod Counting
+pub mod Levels
+pub mod Answers
