@@ -1,17 +1,17 @@
 -- What a step leaves: the words outside its own as they were, and words, flags and the SIPI vector in their ranges.
 -- Assumes nothing.
-use mathlib.Core.Path.{_≡_, refl, sym, ap, _∙_, subst}
+use mathlib.Core.Path.{_≡_, refl, sym, _∙_, subst}
 use mathlib.Core.Bool.{Bool, true, false}
 use mathlib.Core.List.{List}
 use mathlib.Core.Logic.{_⊎_, inl, inr, ⊎-elim}
 use Prim.Native.Nat.{ℕ, _+_, _/_, _%_, _^_, _≤_, _<_}
 use native.Mathlib.Omega.{arith}
 use lib.ListN.{getD, set, length, length-set}
-use lib.Seq.{getD-set-same, getD-set-other, set-out}
+use lib.Seq.{getD-set-other}
 use lib.Dec.{eqb}
-use borrow.Author.Tests.{ltb-true, eqb-true, eqb-false}
+use borrow.Author.Tests.{ltb-true}
 use Rattle.word.specs.Word.{if_then_else_, sll}
-use Rattle.word.proofs.Laws.{side}
+use Rattle.word.proofs.Words.{Words, set-case, set-below}
 use Rattle.layout.specs.Layout.{running, sipirr, sipivect, initrr, eoipending}
 use Rattle.apic.specs.declared.vectors.Found.{Found}
 use Rattle.apic.specs.declared.vectors.Found.the-variants.{Vector, None}
@@ -23,25 +23,6 @@ use Rattle.apic.specs.LocalApic.{portAt, icr, eoi, isr, irr, idOf, ended
 use Rattle.apic.specs.Active.{idle, aimed, reached, initCore, startCore}
 use Rattle.apic.proofs.Bits.{put-lt}
 use Rattle.apic.proofs.Least.{least-vector}
-
--- ---- one word of a list
-
-pub set-case : (P : ℕ → Type 0) (l : List ℕ) (i a x : ℕ) → (x ≡ i → P a) → P (getD l x 0) → P (getD (set l i a) x 0)
-set-case P l i a x pa pl = go (eqb x i) refl
-  where
-    at : x ≡ i → P (getD (set l i a) x 0)
-    at e =
-        ⊎-elim
-        (λ h. subst P (sym (ap (λ (n : ℕ). getD (set l i a) n 0) e ∙ getD-set-same l i a 0 h)) (pa e))
-        (λ h. subst P (ap (λ (m : List ℕ). getD m x 0) (sym (set-out l i a h))) pl)
-        (side i (length l))
-
-    go : (t : Bool) → eqb x i ≡ t → P (getD (set l i a) x 0)
-    go true e = at (eqb-true x i e)
-    go false e = subst P (sym (getD-set-other l i x a 0 (eqb-false x i e))) pl
-
-abbrev pub Words : List ℕ → Type 0
-Words b = (x : ℕ) → getD b x 0 < 2 ^ 32
 
 -- ---- what a step leaves; P tells the words that are not its own
 
@@ -78,7 +59,7 @@ module _ (P : ℕ → Type 0) where
       record {
         long = length-set b i v;
         same = λ x p. getD-set-other b i x v 0 (λ e. n (subst P e p));
-        words = λ h x. set-case (λ (y : ℕ). y < 2 ^ 32) b i v x (λ e. w h) (h x);
+        words = λ h. set-below b i v h (w h);
         running-flag = λ h. set-case (λ (y : ℕ). y < 2) b i v running (λ e. hr (sym e)) h;
         sipirr-flag = λ h. set-case (λ (y : ℕ). y < 2) b i v sipirr (λ e. hs (sym e)) h;
         sipivect-small = λ h. set-case (λ (y : ℕ). y < 256) b i v sipivect (λ e. hv (sym e)) h;

@@ -8,6 +8,7 @@ pub mod Written
 pub mod Changes
 pub mod Doing
 pub mod Sounds
+pub mod Bounds
 pub mod Decisions
 pub mod Executions
 pub mod Locals

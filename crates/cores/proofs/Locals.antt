@@ -5,7 +5,7 @@ use mathlib.Core.Path.{_≡_, refl, _∙_, ap}
 use mathlib.Core.Logic.{_≢_, _⊎_, inl, inr, ⊎-elim}
 use mathlib.Core.Bool.{Bool, true, false}
 use mathlib.Core.List.{List}
-use Prim.Native.Nat.{ℕ, zero, suc, _+_, _*_, _/_, _%_, _<_, _≤_}
+use Prim.Native.Nat.{ℕ, zero, suc, _+_, _*_, _/_, _%_, _^_, _<_, _≤_}
 use lib.ListN.{length, getD, set, length-set}
 use lib.Seq.{getD-set-other}
 use lib.Dec.{eqb, ltb}
@@ -13,24 +13,29 @@ use native.Mathlib.Omega.{arith}
 use borrow.Author.Tests.{ltb-true, leb-true, eqb-true}
 use Rattle.word.specs.Word.{if_then_else_}
 use Rattle.word.specs.Bytes.{put}
-use Rattle.word.proofs.Bytes.{put-length}
+use Rattle.word.proofs.Bytes.{Bytes, put-length, put-bytes}
 use Rattle.word.proofs.Tests.{true-false}
+use Rattle.word.proofs.Words.{Words}
 use Rattle.layout.specs.Layout.{ioregsel, iowin, redirect}
 use Rattle.layout.specs.Blocks.{block}
 use Rattle.layout.proofs.Blocks.{with-same, with-long, with-block, with-other, with-outside, set-block}
 use Rattle.records.proofs.Counts.{and-left, and-right}
 use Rattle.tables.specs.Views.{coresOf}
 use Rattle.tables.specs.Sound.{sound}
-use Rattle.tables.proofs.Lift.{core-long, core-sound, bytes-divide, with-sound, set-header-sound}
+use Rattle.tables.proofs.Lift.{header, core-long, core-sound, bytes-divide, with-sound, set-header-sound}
 use Rattle.store_buffer.specs.System.{sized, aligned}
 use Rattle.ioapic.specs.IoApic as ioapic
+use Rattle.ioapic.proofs.Blocks.{block-words, withBlock-words}
 use Rattle.steps.specs.declared.Answer.the-variants.{Refused}
 use Rattle.cores.specs.declared.Write.{Write}
 use Rattle.cores.specs.declared.Write.the-variants.{Memory, LocalPort, IoPort}
 use Rattle.cores.specs.declared.Plan.{Plan}
 use Rattle.cores.specs.Plans.{refused}
 use Rattle.cores.specs.Commit.{coreAfter, bufferAfter, walksAfter, portAfter, blockAfter, headerAfter, tablesAfter, writtenTo, memoryAfter, fits}
+use Rattle.cores.proofs.Doing.{port-ready}
 use Rattle.cores.proofs.Sounds.{plan-shows}
+use Rattle.cores.proofs.Bounds as bounds
+use Rattle.cores.proofs.Bounds.{PlanWords, header-words}
 use Rattle.cores.proofs.Decisions.{alignedWrite, MayBeDone}
 
 -- ---- the header
@@ -153,6 +158,13 @@ written-long (Memory a d v) m = put-length d m a v
 written-long (LocalPort a v) m = refl
 written-long (IoPort a v) m = refl
 
+pub written-bytes : (x : Write) (m : List ℕ) → Bytes m → Bytes (writtenTo x m)
+unfolding writtenTo
+written-bytes Write.Nothing m b = b
+written-bytes (Memory a d v) m b = put-bytes d m a v b
+written-bytes (LocalPort a v) m b = b
+written-bytes (IoPort a v) m b = b
+
 -- ---- a plan that may be done
 
 -- the memory of sound tables is whole words
@@ -178,6 +190,16 @@ module _ (t m : List ℕ) (k : ℕ) (p : Plan) (e : sound t (length m) ≡ true)
       let S = plan-shows (length m) p (block t k) (core-long t (length m) e k h) (core-sound t (length m) e k h) (D .is-ready) (D .is-sound) in
       ap (λ (n : ℕ). sound (tablesAfter k p t) n) (written-long (p .write) m)
       ∙ header-sound (p .write) _ (length m) (with-sound t (length m) e k (blockAfter p (block t k)) h (S .long) (S .sound))
+
+  -- words stay words
+  pub plan-words : Words t → Words (tablesAfter k p t)
+  unfolding tablesAfter
+  plan-words w =
+      let B : Words (block t k) = block-words t k w in
+      let P : PlanWords p = D .brings-words B in
+      let few : length m ≤ 2 ^ 32 = omega (arith, header t (length m) e .few-pages, bytes-divide t (length m) e) in
+      header-words (p .write) _ (P .in-port)
+      (withBlock-words t k (blockAfter p (block t k)) w (bounds.block-words (length m) p (block t k) few (D .is-sound) (port-ready p (block t k) (D .is-ready)) P B))
 
   -- one run of memory at most
   pub plan-memory : (memoryAfter p m ≡ m) ⊎ Run m (memoryAfter p m)

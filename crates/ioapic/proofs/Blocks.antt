@@ -1,18 +1,18 @@
 -- A function at the block of every core: block by block, and what it leaves.
 -- Assumes nothing.
 use mathlib.Core.Path.{_≡_, refl, sym, ap, _∙_, subst}
-use mathlib.Core.List.{List}
-use mathlib.Core.Logic.{inl, inr, ⊎-elim}
-use Prim.Native.Nat.{ℕ, zero, suc, _+_, _-_, _*_, _^_, _≤_, _<_}
+use mathlib.Core.List.{List, _++_}
+use mathlib.Core.Logic.{⊎-elim}
+use Prim.Native.Nat.{ℕ, zero, suc, _+_, _*_, _≤_, _<_}
 use native.Mathlib.Omega.{arith}
-use lib.ListN.{length, getD, List·getD-eq-default}
+use lib.ListN.{length, getD, take, drop}
 use lib.Seq.{ext-getD}
 use Rattle.word.proofs.Laws.{side}
+use Rattle.word.proofs.Words.{Words, append-below, take-below, drop-below}
 use Rattle.layout.specs.Layout.{blockAt}
-use Rattle.apic.proofs.Kept.{Words}
 use Rattle.layout.specs.Blocks.{block, withBlock}
 use Rattle.ioapic.specs.Blocks.{onBlock, onBlocks}
-use Rattle.layout.proofs.Blocks.{Has, block-long, block-at, with-long, with-inside, with-before, with-outside, with-block, with-other}
+use Rattle.layout.proofs.Blocks.{Has, block-long, block-at, with-long, with-before, with-block, with-other}
 
 -- f keeps the length of a block
 abbrev pub Sized : (List ℕ → List ℕ) → Type 0
@@ -22,24 +22,15 @@ Sized f = (b : List ℕ) → length b ≡ 256 → length (f b) ≡ 256
 abbrev pub Wordly : (List ℕ → List ℕ) → Type 0
 Wordly f = (b : List ℕ) → Words b → Words (f b)
 
-pub block-words : (t : List ℕ) (k : ℕ) → Has t k → Words t → Words (block t k)
-block-words t k h w x =
-    ⊎-elim (λ l. subst (λ (y : ℕ). y < 2 ^ 32) (sym (block-at t k x l)) (w (blockAt k + x)))
-    (λ l. subst (λ (y : ℕ). y < 2 ^ 32) (sym (List·getD-eq-default (block t k) 0 (omega (arith, block-long t k h)))) (omega arith))
-    (side x 256)
+pub block-words : (t : List ℕ) (k : ℕ) → Words t → Words (block t k)
+unfolding block
+block-words t k w = take-below 256 (drop (blockAt k) t) (drop-below (blockAt k) t w)
 
-module _ (t : List ℕ) (k : ℕ) (b : List ℕ) (h : Has t k) (e : length b ≡ 256) where
-  pub withBlock-words : Words t → Words b → Words (withBlock t k b)
-  withBlock-words wt wb x =
-      ⊎-elim (λ l. subst (λ (y : ℕ). y < 2 ^ 32) (sym (with-outside t k b h e x (inl l))) (wt x))
-      (λ l. ⊎-elim
-      (λ m.
-      let p : x ≡ blockAt k + (x - blockAt k) = omega arith in
-      subst (λ (n : ℕ). getD (withBlock t k b) n 0 < 2 ^ 32) (sym p)
-      (subst (λ (y : ℕ). y < 2 ^ 32) (sym (with-inside t k b h e (x - blockAt k) (omega arith))) (wb (x - blockAt k))))
-      (λ m. subst (λ (y : ℕ). y < 2 ^ 32) (sym (with-outside t k b h e x (inr m))) (wt x))
-      (side x (blockAt k + 256)))
-      (side x (blockAt k))
+pub withBlock-words : (t : List ℕ) (k : ℕ) (b : List ℕ) → Words t → Words b → Words (withBlock t k b)
+unfolding withBlock
+withBlock-words t k b w v =
+    append-below (take (blockAt k) t) (b ++ drop 256 (drop (blockAt k) t)) (take-below (blockAt k) t w)
+    (append-below b (drop 256 (drop (blockAt k) t)) v (drop-below 256 (drop (blockAt k) t) (drop-below (blockAt k) t w)))
 
 -- tables that agree from word 30 on, as after a step of the I/O APIC, have the same blocks
 pub block-agrees : (t t′ : List ℕ) (j : ℕ) → length t′ ≡ length t → ((x : ℕ) → 29 < x → getD t′ x 0 ≡ getD t x 0) → Has t j →
@@ -68,8 +59,8 @@ module _ (f : List ℕ → List ℕ) (sized : Sized f) (t : List ℕ) (k : ℕ) 
   pub onBlock-header : (x : ℕ) → x < 32 → getD (onBlock f k t) x 0 ≡ getD t x 0
   onBlock-header x l = with-before t k (f (block t k)) h long x (omega arith)
 
-  pub onBlock-words : Wordly f → Words t → Words (onBlock f k t)
-  onBlock-words g w = withBlock-words t k (f (block t k)) h long w (g (block t k) (block-words t k h w))
+pub onBlock-words : (f : List ℕ → List ℕ) → Wordly f → (t : List ℕ) (k : ℕ) → Words t → Words (onBlock f k t)
+onBlock-words f g t k w = withBlock-words t k (f (block t k)) w (g (block t k) (block-words t k w))
 
 -- ---- at all
 
@@ -112,8 +103,7 @@ module _ (f : ℕ → List ℕ → List ℕ) (sized : (j : ℕ) → Sized (f j))
         (onBlock-same (f n) (sized n) (onBlocks f n t) n (has n n (omega arith) h) ∙ ap (f n) (later n (omega arith) n (omega arith) h)))
         (side k n)
 
-    pub onBlocks-words : ((j : ℕ) → Wordly (f j)) → (n : ℕ) → n ≤ c → Words t → Words (onBlocks f n t)
-    unfolding onBlocks
-    onBlocks-words g zero h w = w
-    onBlocks-words g (suc n) h w =
-        onBlock-words (f n) (sized n) (onBlocks f n t) n (has n n (omega arith) h) (g n) (onBlocks-words g n (omega arith) w)
+pub onBlocks-words : (f : ℕ → List ℕ → List ℕ) → ((j : ℕ) → Wordly (f j)) → (t : List ℕ) (n : ℕ) → Words t → Words (onBlocks f n t)
+unfolding onBlocks
+onBlocks-words f g t zero w = w
+onBlocks-words f g t (suc n) w = onBlock-words (f n) (g n) (onBlocks f n t) n (onBlocks-words f g t n w)

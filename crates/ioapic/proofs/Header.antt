@@ -12,10 +12,10 @@ use lib.Dec.{eqb, ltb}
 use borrow.Author.Tests.{ltb-true}
 use Rattle.word.specs.Word.{if_then_else_}
 use Rattle.word.proofs.Laws.{side}
+use Rattle.word.proofs.Words.{Words, set-below}
 use Rattle.layout.specs.Layout.{ioregsel, iowin, redirect}
 use Rattle.apic.specs.Vectors.{withBit}
 use Rattle.apic.proofs.Bits.{put-lt}
-use Rattle.apic.proofs.Kept.{Words, set-case}
 use Rattle.ioapic.specs.IoApic.{entry, withEntry, vect, rirr, ds, selected, windowed, written, onEntries, acknowledged, ended, sampled, handed}
 
 -- the words that are not the I/O APIC's
@@ -44,7 +44,7 @@ kept-more {t} {u} p i v l h w =
     record {
       long = length-set u i v ∙ p .long;
       same = λ x o. getD-set-other u i x v 0 (λ e. ⊎-elim (λ k. omega arith) (λ k. omega arith) o) ∙ p .same x o;
-      words = λ d x. set-case (λ (y : ℕ). y < 2 ^ 32) u i v x (λ e. w d) (p .words d x);
+      words = λ d. set-below u i v (p .words d) (w d);
     }
 
 kept-set : (t : List ℕ) (i v : ℕ) → 4 ≤ i → i ≤ 29 → (Words t → v < 2 ^ 32) → Kept t (set t i v)

@@ -10,11 +10,12 @@ use lib.ListN.{length, getD}
 use lib.Dec.{eqb}
 use borrow.Author.Tests.{eqb-true, eqb-false}
 use Rattle.word.specs.Word.{if_then_else_}
+use Rattle.word.proofs.Words.{Words}
 use Rattle.layout.specs.Layout.{eoipending, redirect}
 use Rattle.apic.specs.declared.active.Ipi.{Ipi}
 use Rattle.apic.specs.LocalApic.{idOf, fixed, irr}
 use Rattle.apic.specs.Active.{idle, reached, eoiSent}
-use Rattle.apic.proofs.Kept.{Words, Passive, kept-all, kept-if, kept-idle, kept-reached, kept-vector}
+use Rattle.apic.proofs.Kept.{Passive, kept-all, kept-if, kept-idle, kept-reached, kept-vector}
 use Rattle.apic.proofs.Kept as local
 use Rattle.layout.specs.Blocks.{block}
 use Rattle.ioapic.specs.Blocks.{onBlock}
@@ -84,8 +85,7 @@ module _ (n : ℕ) (t : List ℕ) (all : length t ≡ 32 + 256 * n) where
     pub ipi-words : Words t → Words (sendIpi n i m t)
     unfolding sendIpi broadcast idled
     ipi-words w =
-        onBlocks-words f (λ j. sized (f j) (local-f j)) idled n idled-long (λ j. wordly (f j) (local-f j)) n (omega arith)
-        (onBlock-words idle (sized idle kept-idle) t i (has i hi) (wordly idle kept-idle) w)
+        onBlocks-words f (λ j. wordly (f j) (local-f j)) (onBlock idle i t) n (onBlock-words idle (wordly idle kept-idle) t i w)
 
   -- ---- apic-sendEOI
 
@@ -126,7 +126,7 @@ module _ (n : ℕ) (t : List ℕ) (all : length t ≡ 32 + 256 * n) where
 
     pub eoi-words : Words t → Words (sendEoi i v t)
     unfolding sendEoi sent
-    eoi-words w = kept-ended sent v .words (onBlock-words g (sized g local-g) t i (has i hi) (wordly g local-g) w)
+    eoi-words w = kept-ended sent v .words (onBlock-words g (wordly g local-g) t i w)
 
   -- ---- ioapic-deliver
 
@@ -161,5 +161,4 @@ module _ (n : ℕ) (t : List ℕ) (all : length t ≡ 32 + 256 * n) where
     pub deliver-words : Words t → Words (deliver n k t)
     unfolding deliver
     deliver-words w =
-        onBlocks-words d (λ j. sized (d j) (local-d j)) (handed t k) n (kept .long ∙ all) (λ j. wordly (d j) (local-d j)) n (omega arith)
-        (kept .words w)
+        onBlocks-words d (λ j. wordly (d j) (local-d j)) (handed t k) n (kept .words w)

@@ -10,6 +10,7 @@ use native.Mathlib.Omega.{arith}
 use borrow.Author.Tests.{ltb-true, lt-ltb}
 use Rattle.word.specs.Word.{if_then_else_}
 use Rattle.word.proofs.Bytes.{Bytes}
+use Rattle.word.proofs.Words.{Words}
 use Rattle.layout.specs.Layout.{spr, pto}
 use Rattle.layout.specs.Blocks.{block}
 use Rattle.records.proofs.Counts.{and-left, and-right, and-both}
@@ -31,59 +32,79 @@ use Rattle.cores.specs.Commit.{ready, fits}
 use Rattle.cores.proofs.Decisions.{MayBeDone, create-plan, extend-plan, accessed-plan, drain-plan}
 use Rattle.cores.proofs.Executions.{core-plan}
 use Rattle.machine.specs.declared.action.Action.{Action}
-use Rattle.machine.specs.declared.action.Action.the-variants.{Refused, Planned, SendIpi, SendEoi, InitCore, StartCore, Sample, Deliver}
+use Rattle.machine.specs.declared.action.Action.the-variants.{Refused, Planned, SendIpi, SendEoi, InitCore, StartCore, Sample, Deliver, SetLine}
 use Rattle.machine.specs.Actions.{doable}
 use Rattle.machine.specs.Decide.{ifAllowed, toSend, toEnd, byStep, decided}
 use Rattle.machine.proofs.Forms.{formed, step-formed}
-use Rattle.machine.proofs.Fitting.{quarters, has}
+use Rattle.machine.proofs.Fitting.{quarters}
 use Rattle.apic.specs.Vectors.{isVector}
-use Rattle.apic.proofs.Kept.{Words}
 use Rattle.apic.proofs.Least.{lowest-vector}
 use Rattle.apic.proofs.Sendings.{sending-vect}
 use Rattle.ioapic.proofs.Blocks.{block-words}
 
-module _ (t m : List ℕ) (e : sound t (length m) ≡ true) where
-  abbrev Ok : Action → Type 0
-  Ok a = doable (coresOf t) (length m) a t ≡ true
+module _ (t m : List ℕ) where
+  -- what an action that is decided has for what it does
+  abbrev pub Able : Action → Type 0
+  Able (Refused n) = Unit {0}
+  Able (Planned k p) = (k < coresOf t) × MayBeDone (length m) (block t k) p
+  Able (SendIpi k i) = (k < coresOf t) × (i .vect < 256)
+  Able (SendEoi k v) = (k < coresOf t) × (v < 256)
+  Able (InitCore k) = k < coresOf t
+  Able (StartCore k) = k < coresOf t
+  Able (Sample l) = l < 24
+  Able (Deliver l) = l < 24
+  Able (SetLine l v) = (l < 24) × (v < 2)
 
-  by-if : (b : Bool) (a : Action) → Ok a → Ok (ifAllowed b a)
+  if-able : (b : Bool) (a : Action) → Able a → Able (ifAllowed b a)
+  if-able true a p = p
+  if-able false a p = tt
+
+  send-able : (k : ℕ) (s : Sending) → k < coresOf t → sending (block t k) ≡ s → Able (toSend k s)
+  send-able k (sent.Send i) h q = (h, sending-vect (block t k) i q)
+  send-able k sent.Refused h q = tt
+
+  end-able : (k : ℕ) (f : Found) → k < coresOf t → isVector f ≡ true → Able (toEnd k f)
+  end-able k (Vector v) h q = (h, ltb-true v 256 q)
+  end-able k None h q = tt
+
+  able-doable : (a : Action) → Able a → doable (coresOf t) (length m) a t ≡ true
   unfolding doable
-  by-if true a p = p
-  by-if false a p = refl
+  able-doable (Refused n) A = refl
+  able-doable (Planned k p) A = and-both (ltb k (coresOf t)) _ (lt-ltb k (coresOf t) (A .0)) (and-both (ready p (block t k)) _ (A .1 .is-ready) (A .1 .is-fitting))
+  able-doable (SendIpi k i) A = and-both (ltb k (coresOf t)) _ (lt-ltb k (coresOf t) (A .0)) (lt-ltb (i .vect) 256 (A .1))
+  able-doable (SendEoi k v) A = and-both (ltb k (coresOf t)) _ (lt-ltb k (coresOf t) (A .0)) (lt-ltb v 256 (A .1))
+  able-doable (InitCore k) A = lt-ltb k (coresOf t) A
+  able-doable (StartCore k) A = lt-ltb k (coresOf t) A
+  able-doable (Sample l) A = lt-ltb l 24 A
+  able-doable (Deliver l) A = lt-ltb l 24 A
+  able-doable (SetLine l v) A = and-both (ltb l 24) _ (lt-ltb l 24 (A .0)) (lt-ltb v 2 (A .1))
 
-  plan-ok : (k : ℕ) (p : Plan) → ltb k (coresOf t) ≡ true → MayBeDone (length m) (block t k) p → Ok (Planned k p)
-  unfolding doable
-  plan-ok k p h D = and-both (ltb k (coresOf t)) _ h (and-both (ready p (block t k)) _ (D .is-ready) (D .is-fitting))
+  module _ (e : sound t (length m) ≡ true) (ws : Words t) (bs : Bytes m) where
+    step-able : (x : Step) → formed (coresOf t) x ≡ true → Able (byStep t m x)
+    unfolding byStep
+    step-able (kind.Core k wI wR) f = (ltb-true k (coresOf t) f, core-plan (block t k) m (ioregselOf t) (iowinOf t) wI wR (quarters t (length m) e))
+    step-able (kind.TlbCreate k va) f =
+        let l : va < 2 ^ 20 = ltb-true va (2 ^ 20) (and-right (ltb k (coresOf t)) _ f) in
+        (ltb-true k (coresOf t) (and-left (ltb k (coresOf t)) _ f), create-plan (block t k) m va l (block-words t k ws (spr + pto)))
+    step-able (kind.TlbExtend k w) f =
+        let h : k < coresOf t = ltb-true k (coresOf t) f in
+        (h, extend-plan (block t k) m w (core-sound t (length m) e k h) bs)
+    step-able (kind.TlbAccessed k w) f = (ltb-true k (coresOf t) f, accessed-plan (block t k) m w)
+    step-able (kind.StoreBuffer k) f =
+        let h : k < coresOf t = ltb-true k (coresOf t) f in
+        (h, drain-plan (length m) (block t k) (core-sound t (length m) e k h))
+    step-able (kind.SendIpi k) f = send-able k (sending (block t k)) (ltb-true k (coresOf t) f) refl
+    step-able (kind.SendEoi k) f = end-able k (pendingEoi (block t k)) (ltb-true k (coresOf t) f) (lowest-vector (block t k) _ refl)
+    step-able (kind.InitCore k) f = if-able (mayInit (block t k)) (InitCore k) (ltb-true k (coresOf t) f)
+    step-able (kind.StartCore k) f = if-able (mayStart (block t k)) (StartCore k) (ltb-true k (coresOf t) f)
+    step-able (kind.Sample l) f = if-able (maySample t l) (Sample l) (ltb-true l 24 f)
+    step-able (kind.Deliver l) f = if-able (mayDeliver t l) (Deliver l) (ltb-true l 24 f)
+    step-able (kind.SetLine l v) f = (ltb-true l 24 (and-left (ltb l 24) _ f), ltb-true v 2 (and-right (ltb l 24) _ f))
+    step-able kind.NotAStep f = tt
 
-  send-ok : (k : ℕ) (s : Sending) → ltb k (coresOf t) ≡ true → sending (block t k) ≡ s → Ok (toSend k s)
-  unfolding doable
-  send-ok k (sent.Send i) h q = and-both (ltb k (coresOf t)) _ h (lt-ltb (i .vect) 256 (sending-vect (block t k) i q))
-  send-ok k sent.Refused h q = refl
-
-  end-ok : (k : ℕ) (f : Found) → ltb k (coresOf t) ≡ true → isVector f ≡ true → Ok (toEnd k f)
-  unfolding doable
-  end-ok k (Vector v) h q = and-both (ltb k (coresOf t)) _ h q
-  end-ok k None h q = refl
-
-  module _ (ws : Words t) (bs : Bytes m) where
-    step-ok : (x : Step) → formed (coresOf t) x ≡ true → Ok (byStep t m x)
-    unfolding byStep doable
-    step-ok (kind.Core k wI wR) f = plan-ok k _ f (core-plan (block t k) m (ioregselOf t) (iowinOf t) wI wR (quarters t (length m) e))
-    step-ok (kind.TlbCreate k va) f =
-        let g = and-left (ltb k (coresOf t)) _ f in
-        plan-ok k _ g (create-plan (block t k) m va (block-words t k (has t (length m) e k g) ws (spr + pto)))
-    step-ok (kind.TlbExtend k w) f = plan-ok k _ f (extend-plan (block t k) m w (core-sound t (length m) e k (ltb-true k (coresOf t) f)) bs)
-    step-ok (kind.TlbAccessed k w) f = plan-ok k _ f (accessed-plan (block t k) m w)
-    step-ok (kind.StoreBuffer k) f = plan-ok k _ f (drain-plan (length m) (block t k) (core-sound t (length m) e k (ltb-true k (coresOf t) f)))
-    step-ok (kind.SendIpi k) f = send-ok k (sending (block t k)) f refl
-    step-ok (kind.SendEoi k) f = end-ok k (pendingEoi (block t k)) f (lowest-vector (block t k) _ refl)
-    step-ok (kind.InitCore k) f = by-if (mayInit (block t k)) (InitCore k) f
-    step-ok (kind.StartCore k) f = by-if (mayStart (block t k)) (StartCore k) f
-    step-ok (kind.Sample l) f = by-if (maySample t l) (Sample l) f
-    step-ok (kind.Deliver l) f = by-if (mayDeliver t l) (Deliver l) f
-    step-ok (kind.SetLine l v) f = f
-    step-ok kind.NotAStep f = refl
+    pub decided-able : (s : List ℕ) → Able (decided t m s)
+    unfolding decided
+    decided-able s = step-able (stepOf (coresOf t) s) (step-formed (coresOf t) s)
 
     pub decided-doable : (s : List ℕ) → doable (coresOf t) (length m) (decided t m s) t ≡ true
-    unfolding decided
-    decided-doable s = step-ok (stepOf (coresOf t) s) (step-formed (coresOf t) s)
+    decided-doable s = able-doable (decided t m s) (decided-able s)

@@ -12,52 +12,39 @@ use lib.Pow.{pow-pos, pow-add, shr-lt}
 use lib.Dec.{eqb, ltb}
 use native.Mathlib.Nat.{mod-lt, pow-suc}
 use native.Mathlib.Omega.{arith}
-use borrow.Author.Tests.{ltb-true}
 use Rattle.word.specs.Word.{if_then_else_}
 use Rattle.word.proofs.Bytes.{Bytes}
+use Rattle.word.proofs.Words.{Words}
 use Rattle.word.proofs.Tests.{true-false}
 use Rattle.layout.specs.Layout as at
 use Rattle.layout.specs.Blocks.{block}
 use Rattle.layout.proofs.Blocks.{with-long, with-header}
-use Rattle.records.proofs.Counts.{and-left, and-right}
 use Rattle.records.proofs.Frame.{Alike, same-sound}
-use Rattle.tables.specs.Views.{coresOf, linesOf, ioregselOf, iowinOf, refusalsOf}
+use Rattle.tables.specs.Views.{coresOf, linesOf, refusalsOf}
 use Rattle.tables.specs.Sound.{soundBlock, sound}
 use Rattle.tables.proofs.Parts.{words-of, records-of, of-parts}
 use Rattle.tables.proofs.Places.{words-facts, facts-words}
 use Rattle.tables.proofs.Lift.{header, core-fits, core-long, core-sound, with-sound, set-header-sound, set-lines-sound}
-use Rattle.apic.specs.declared.vectors.Found.{Found}
-use Rattle.apic.specs.declared.vectors.Found.the-variants.{Vector, None}
 use Rattle.apic.specs.declared.active.Ipi.{Ipi}
-use Rattle.apic.specs.declared.active.Sending.{Sending}
-use Rattle.apic.specs.declared.active.Sending.the-variants as sent
-use Rattle.apic.specs.Vectors.{withBit, isVector}
+use Rattle.apic.specs.Vectors.{withBit}
 use Rattle.apic.specs.LocalApic.{idOf, fixed, irr}
-use Rattle.apic.specs.Active.{sending, pendingEoi, idle, reached, eoiSent, mayInit, mayStart, initCore, startCore}
-use Rattle.apic.proofs.Kept.{Words, Kept, Passive, Reset, kept-all, kept-if, kept-vector, kept-idle, kept-reached, kept-initCore, kept-startCore}
-use Rattle.apic.proofs.Least.{lowest-vector}
-use Rattle.apic.proofs.Sendings.{sending-vect}
+use Rattle.apic.specs.Active.{idle, reached, eoiSent, initCore, startCore}
+use Rattle.apic.proofs.Kept.{Kept, Passive, Reset, kept-all, kept-if, kept-vector, kept-idle, kept-reached, kept-initCore, kept-startCore}
 use Rattle.ioapic.specs.Blocks.{onBlock, onBlocks}
-use Rattle.ioapic.specs.IoApic.{entry, withEntry, dest, vect, rirr, ds, onEntries, acknowledged, ended, sampled, handed, maySample, mayDeliver}
+use Rattle.ioapic.specs.IoApic.{entry, withEntry, dest, vect, rirr, ds, onEntries, acknowledged, ended, sampled, handed}
 use Rattle.ioapic.specs.Bus.{broadcast, sendIpi, sendEoi, deliver}
-use Rattle.ioapic.proofs.Blocks.{block-words}
 use Rattle.steps.specs.declared.Answer.{Answer}
 use Rattle.steps.specs.declared.Answer.the-variants as answer
-use Rattle.steps.specs.declared.Step.{Step}
-use Rattle.steps.specs.declared.Step.the-variants as kind
-use Rattle.steps.specs.Form.{stepOf}
 use Rattle.cores.specs.declared.Plan.{Plan}
 use Rattle.cores.specs.Commit as cores
-use Rattle.cores.proofs.Decisions.{MayBeDone, create-plan, extend-plan, accessed-plan, drain-plan}
-use Rattle.cores.proofs.Executions.{core-plan}
+use Rattle.cores.proofs.Decisions.{MayBeDone}
 use Rattle.cores.proofs.Locals.{tables-long, tables-local, written-long, plan-long, plan-sound}
 use Rattle.machine.specs.declared.action.Action.{Action}
 use Rattle.machine.specs.declared.action.Action.the-variants.{Refused, Planned, SendIpi, SendEoi, InitCore, StartCore, Sample, Deliver, SetLine}
 use Rattle.machine.specs.Actions.{lineSet, answerOf, tablesAfter, memoryAfter}
-use Rattle.machine.specs.Decide.{ifAllowed, toSend, toEnd, byStep, decided}
+use Rattle.machine.specs.Decide.{decided}
 use Rattle.machine.specs.Step.{counted, after, taken, step}
-use Rattle.machine.proofs.Forms.{formed, step-formed}
-use Rattle.machine.proofs.Fitting.{quarters, has}
+use Rattle.machine.proofs.Deciding.{Able, decided-able}
 
 -- ---- what keeps tables sound
 
@@ -252,21 +239,8 @@ memory-long (SetLine l v) m = refl
 -- ---- the action that is decided
 
 module _ (t m : List ℕ) (e : sound t (length m) ≡ true) where
-  abbrev Fine : Action → Type 0
-  Fine a = Keeps (length m) t (tablesAfter a t)
-
-  refused-fine : (n : ℕ) → Fine (Refused n)
-  unfolding tablesAfter
-  refused-fine n = keeps-all (length m) t e
-
-  by-if : (b : Bool) (a : Action) → Fine a → Fine (ifAllowed b a)
-  by-if true a p = p
-  by-if false a p = refused-fine 6
-
-  plan-fine : (k : ℕ) (p : Plan) → ltb k (coresOf t) ≡ true → MayBeDone (length m) (block t k) p → Fine (Planned k p)
-  unfolding tablesAfter
-  plan-fine k p h D =
-      let l = ltb-true k (coresOf t) h in
+  plan-keeps : (k : ℕ) (p : Plan) → k < coresOf t → MayBeDone (length m) (block t k) p → Keeps (length m) t (cores.tablesAfter k p t)
+  plan-keeps k p l D =
       let fits = core-fits t (length m) e k l in
       let long = plan-long t m k p e l D in
       record {
@@ -275,39 +249,21 @@ module _ (t m : List ℕ) (e : sound t (length m) ≡ true) where
         is-sound = subst (λ (n : ℕ). sound (cores.tablesAfter k p t) n ≡ true) (written-long (p .write) m) (plan-sound t m k p e l D);
       }
 
-  send-fine : (k : ℕ) (s : Sending) → ltb k (coresOf t) ≡ true → sending (block t k) ≡ s → Fine (toSend k s)
+  action-keeps : (a : Action) → Able t m a → Keeps (length m) t (tablesAfter a t)
   unfolding tablesAfter
-  send-fine k (sent.Send i) h q = ipi-keeps t (length m) e k i (ltb-true k (coresOf t) h) (sending-vect (block t k) i q)
-  send-fine k sent.Refused h q = refused-fine 6
-
-  end-fine : (k : ℕ) (f : Found) → ltb k (coresOf t) ≡ true → isVector f ≡ true → Fine (toEnd k f)
-  unfolding tablesAfter
-  end-fine k (Vector v) h q = eoi-keeps t (length m) e k v (ltb-true k (coresOf t) h) (ltb-true v 256 q)
-  end-fine k None h q = refused-fine 6
+  action-keeps (Refused n) A = keeps-all (length m) t e
+  action-keeps (Planned k p) A = plan-keeps k p (A .0) (A .1)
+  action-keeps (SendIpi k i) A = ipi-keeps t (length m) e k i (A .0) (A .1)
+  action-keeps (SendEoi k v) A = eoi-keeps t (length m) e k v (A .0) (A .1)
+  action-keeps (InitCore k) A = init-keeps t (length m) e k A
+  action-keeps (StartCore k) A = start-keeps t (length m) e k A
+  action-keeps (Sample l) A = sample-keeps t (length m) e l A
+  action-keeps (Deliver l) A = deliver-keeps t (length m) e l A
+  action-keeps (SetLine l v) A = line-keeps t (length m) e l v (A .0) (A .1)
 
   module _ (ws : Words t) (bs : Bytes m) where
-    pub action-keeps : (x : Step) → formed (coresOf t) x ≡ true → Keeps (length m) t (tablesAfter (byStep t m x) t)
-    unfolding byStep tablesAfter
-    action-keeps (kind.Core k wI wR) f = plan-fine k _ f (core-plan (block t k) m (ioregselOf t) (iowinOf t) wI wR (quarters t (length m) e))
-    action-keeps (kind.TlbCreate k va) f =
-        let g = and-left (ltb k (coresOf t)) _ f in
-        plan-fine k _ g (create-plan (block t k) m va (block-words t k (has t (length m) e k g) ws (at.spr + at.pto)))
-    action-keeps (kind.TlbExtend k w) f = plan-fine k _ f (extend-plan (block t k) m w (core-sound t (length m) e k (ltb-true k (coresOf t) f)) bs)
-    action-keeps (kind.TlbAccessed k w) f = plan-fine k _ f (accessed-plan (block t k) m w)
-    action-keeps (kind.StoreBuffer k) f = plan-fine k _ f (drain-plan (length m) (block t k) (core-sound t (length m) e k (ltb-true k (coresOf t) f)))
-    action-keeps (kind.SendIpi k) f = send-fine k (sending (block t k)) f refl
-    action-keeps (kind.SendEoi k) f = end-fine k (pendingEoi (block t k)) f (lowest-vector (block t k) _ refl)
-    action-keeps (kind.InitCore k) f = by-if (mayInit (block t k)) (InitCore k) (init-keeps t (length m) e k (ltb-true k (coresOf t) f))
-    action-keeps (kind.StartCore k) f = by-if (mayStart (block t k)) (StartCore k) (start-keeps t (length m) e k (ltb-true k (coresOf t) f))
-    action-keeps (kind.Sample l) f = by-if (maySample t l) (Sample l) (sample-keeps t (length m) e l (ltb-true l 24 f))
-    action-keeps (kind.Deliver l) f = by-if (mayDeliver t l) (Deliver l) (deliver-keeps t (length m) e l (ltb-true l 24 f))
-    action-keeps (kind.SetLine l v) f =
-        line-keeps t (length m) e l v (ltb-true l 24 (and-left (ltb l 24) _ f)) (ltb-true v 2 (and-right (ltb l 24) _ f))
-    action-keeps kind.NotAStep f = refused-fine 5
-
     pub decided-keeps : (s : List ℕ) → Keeps (length m) t (tablesAfter (decided t m s) t)
-    unfolding decided
-    decided-keeps s = action-keeps (stepOf (coresOf t) s) (step-formed (coresOf t) s)
+    decided-keeps s = action-keeps (decided t m s) (decided-able t m e ws bs s)
 
     -- the action that is decided leaves sound tables beside the memory after it
     pub action-sound : (s : List ℕ) → sound (tablesAfter (decided t m s) t) (length (memoryAfter (decided t m s) m)) ≡ true

@@ -3,6 +3,7 @@ pub mod Fitting
 pub mod Deciding
 pub mod Taking
 pub mod Keeping
+pub mod Words
 pub mod Running
 pub mod Locality
 pub mod Counting

@@ -6,9 +6,10 @@ use mathlib.Core.Path.{_≡_, refl, sym, _∙_, ap}
 use mathlib.Core.Bool.{true}
 use mathlib.Core.List.{List}
 use mathlib.Core.Logic.{_⊎_, inl, inr, _≢_}
-use Prim.Native.Nat.{ℕ, _+_, _*_, _<_, _≤_}
+use Prim.Native.Nat.{ℕ, _+_, _*_, _^_, _<_, _≤_}
 use lib.ListN.{length, getD}
 use Rattle.word.proofs.Bytes.{Bytes}
+use Rattle.word.proofs.Words.{Words}
 use Rattle.layout.specs.Layout.{spr, pto}
 use Rattle.layout.specs.Blocks.{block}
 use Rattle.records.specs.declared.Walk.{Walk}
@@ -16,7 +17,6 @@ use Rattle.records.specs.Records.{stores, walks}
 use Rattle.tables.specs.Views.{coresOf, ioregselOf, iowinOf}
 use Rattle.tables.specs.Sound.{sound}
 use Rattle.tables.proofs.Lift.{core-fits, core-sound}
-use Rattle.apic.proofs.Kept.{Words}
 use Rattle.ioapic.proofs.Blocks.{block-words}
 use Rattle.steps.specs.declared.Step.{Step}
 use Rattle.steps.specs.declared.Step.the-variants as kind
@@ -38,7 +38,7 @@ use Rattle.machine.proofs.Fitting.{quarters}
 -- the step x is of kind 0 to 4, of core k
 pub data Of (k : ℕ) : Step → Type 0 where
   core : (v w : Walk) → Of k (kind.Core k v w)
-  create : (va : ℕ) → Of k (kind.TlbCreate k va)
+  create : (va : ℕ) → va < 2 ^ 20 → Of k (kind.TlbCreate k va)
   extend : (w : Walk) → Of k (kind.TlbExtend k w)
   accessed : (w : Walk) → Of k (kind.TlbAccessed k w)
   drain : Of k (kind.StoreBuffer k)
@@ -47,7 +47,7 @@ pub data Of (k : ℕ) : Step → Type 0 where
 pub depends : (t u m : List ℕ) (k : ℕ) (x : Step) → Of k x → block t k ≡ block u k → ioregselOf t ≡ ioregselOf u → iowinOf t ≡ iowinOf u → byStep t m x ≡ byStep u m x
 unfolding byStep
 depends t u m k x (core v w) b s i = rw (b, s, i) refl
-depends t u m k x (create va) b s i = rw (b) refl
+depends t u m k x (create va l) b s i = rw (b) refl
 depends t u m k x (extend w) b s i = rw (b) refl
 depends t u m k x (accessed w) b s i = rw (b) refl
 depends t u m k x drain b s i = rw (b) refl
@@ -56,7 +56,7 @@ depends t u m k x drain b s i = rw (b) refl
 
 plan : {k : ℕ} {x : Step} → Of k x → List ℕ → List ℕ → Plan
 plan {k} (core v w) t m = coreStep (viewOf (block t k) (ioregselOf t) (iowinOf t)) m v w
-plan {k} (create va) t m = planned (walks (block t k)) (isFree (block t k)) (createOn (block t k) va)
+plan {k} (create va l) t m = planned (walks (block t k)) (isFree (block t k)) (createOn (block t k) va)
 plan {k} (extend w) t m = planned (walks (block t k)) (isFree (block t k)) (extendOn (block t k) m w)
 plan {k} (accessed w) t m = planned (walks (block t k)) (isFree (block t k)) (accessedOn (block t k) m w)
 plan {k} drain t m = bufferStep (stores (block t k)) (length m)
@@ -64,7 +64,7 @@ plan {k} drain t m = bufferStep (stores (block t k)) (length m)
 is-plan : {k : ℕ} {x : Step} (o : Of k x) (t m : List ℕ) → byStep t m x ≡ Planned k (plan o t m)
 unfolding byStep plan
 is-plan (core v w) t m = refl
-is-plan (create va) t m = refl
+is-plan (create va l) t m = refl
 is-plan (extend w) t m = refl
 is-plan (accessed w) t m = refl
 is-plan drain t m = refl
@@ -78,7 +78,7 @@ module _ (t m : List ℕ) (e : sound t (length m) ≡ true) (ws : Words t) (bs :
   done : {x : Step} (o : Of k x) → MayBeDone (length m) (block t k) (plan o t m)
   unfolding plan
   done (core v w) = core-plan (block t k) m (ioregselOf t) (iowinOf t) v w (quarters t (length m) e)
-  done (create va) = create-plan (block t k) m va (block-words t k (core-fits t (length m) e k h) ws (spr + pto))
+  done (create va l) = create-plan (block t k) m va l (block-words t k ws (spr + pto))
   done (extend w) = extend-plan (block t k) m w (core-sound t (length m) e k h) bs
   done (accessed w) = accessed-plan (block t k) m w
   done drain = drain-plan (length m) (block t k) (core-sound t (length m) e k h)

@@ -11,8 +11,8 @@ use native.Mathlib.Omega.{arith}
 use borrow.Author.Tests.{eq-eqb, ne-eqb, eqb-true, ltb-false, not-false}
 use Rattle.word.specs.Word.{if_then_else_}
 use Rattle.word.proofs.Bytes.{Bytes}
+use Rattle.word.proofs.Words.{Words}
 use Rattle.word.proofs.Tests.{true-false}
-use Rattle.apic.proofs.Kept.{Words}
 use Rattle.tables.specs.Sound.{sound}
 use Rattle.steps.specs.declared.Answer.{Answer}
 use Rattle.machine.specs.declared.run.Ran.{Ran}

@@ -22,7 +22,7 @@ all-at p [] i d e h = absurd (omega arith)
 all-at p (x ∷ l) zero d e h = and-left (p x) (all p l) e
 all-at p (x ∷ l) (suc i) d e h = all-at p l i d (and-right (p x) (all p l) e) (omega arith)
 
-or-cases : (p q : Bool) → p || q ≡ true → (p ≡ true) ⊎ (q ≡ true)
+pub or-cases : (p q : Bool) → p || q ≡ true → (p ≡ true) ⊎ (q ≡ true)
 or-cases true q e = inl refl
 or-cases false q e = inr e
 

@@ -17,3 +17,4 @@ pub mod Contents
 pub mod Frame
 pub mod Sound
 pub mod Facts
+pub mod Bounds

@@ -7,3 +7,4 @@ pub mod Reset
 pub mod Places
 pub mod Steps
 pub mod Bank
+pub mod Words

@@ -136,6 +136,18 @@ wext-sound w e s h = go (pteP e) refl
         (of-sound (walkVa w) (walkAsid w) (walkLevel w - 1) (pteR e) (pteBa e) (omega arith) (omega arith) (omega arith) (omega (arith, level-sound w s)) (omega arith))
     go false p = rw (wext-absent w e p) s
 
+-- their first words are words
+pub winit-first : (va origin asid : ℕ) → va < 2 ^ 20 → asid < 2 ^ 6 → winit va origin asid .first < 2 ^ 32
+unfolding winit
+winit-first va origin asid h q = first-lt va asid 2 7 origin q (omega arith) (omega arith) h
+
+pub wext-first : (w : Walk) (e : ℕ) → w .first < 2 ^ 32 → wext w e .first < 2 ^ 32
+wext-first w e h = go (pteP e) refl
+  where
+    go : (t : Bool) → pteP e ≡ t → wext w e .first < 2 ^ 32
+    go true p = rw (wext-present w e p) (first-lt (walkVa w) (walkAsid w) (walkLevel w - 1) (pteR e) (pteBa e) (omega arith) (omega arith) (omega arith) (omega arith))
+    go false p = rw (wext-absent w e p) h
+
 -- the fields of a created walk, and of one that a present entry extends
 pub winit-fields : (va origin asid : ℕ) → asid < 2 ^ 6 → Fields (winit va origin asid) va asid 2 7 origin
 unfolding winit

@@ -7,10 +7,11 @@ use native.Mathlib.Nat.{pow-succ', pow-le-pow-right}
 use native.Mathlib.Omega.{arith}
 use lib.ListN.{length, getD, set, length-set}
 use Rattle.word.specs.Bytes.{bytesAt, put}
+use Rattle.word.proofs.Words.{Below, set-below}
 
 -- every element is a byte
 abbrev pub Bytes : List ℕ → Type 0
-Bytes m = (i : ℕ) → getD m i 0 < 2 ^ 8
+Bytes m = Below (2 ^ 8) m
 
 pub bytes-lt : (d : ℕ) (m : List ℕ) (a : ℕ) → Bytes m → bytesAt d m a < 256 ^ d
 bytes-lt zero m a h = omega arith
@@ -35,6 +36,11 @@ bytes-more m d at left p q =
 pub put-length : (d : ℕ) (m : List ℕ) (a v : ℕ) → length (put d m a v) ≡ length m
 put-length zero m a v = refl
 put-length (suc d) m a v = put-length d (set m a (v % 256)) (a + 1) (v / 256) ∙ length-set m a (v % 256)
+
+-- bytes are put among bytes
+pub put-bytes : (d : ℕ) (m : List ℕ) (a v : ℕ) → Bytes m → Bytes (put d m a v)
+put-bytes zero m a v b = b
+put-bytes (suc d) m a v b = put-bytes d (set m a (v % 256)) (a + 1) (v / 256) (set-below m a (v % 256) b (omega arith))
 
 -- one byte is put, the others are left to put
 pub put-more : (m : List ℕ) (d at i v : ℕ) → i < d →
