@@ -30,7 +30,8 @@ use Rattle.apic.specs.Vectors.{withBit, isVector}
 use Rattle.apic.specs.LocalApic.{idOf, received}
 use Rattle.apic.specs.Active.{ipiOf, sending, idle, aimed, reached, pendingEoi, eoiSent}
 use Rattle.apic.proofs.Bits.{bit-lt}
-use Rattle.apic.proofs.Kept.{Words, Kept, Passive, kept-all, kept-then, kept-idle, kept-received, kept-reached, kept-vector}
+use Rattle.word.proofs.Words.{Words}
+use Rattle.apic.proofs.Kept.{Kept, Passive, kept-all, kept-then, kept-idle, kept-received, kept-reached, kept-vector}
 use Rattle.apic.proofs.Least.{lowest-vector}
 use Rattle.ioapic.specs.Blocks.{onBlock}
 use Rattle.ioapic.specs.IoApic.{entry, vect, acknowledged, onEntries, ended}
@@ -48,7 +49,7 @@ use Rattle.report.specs.Delta as report
 use Rattle.report.specs.View.{apicOf, processorOf, ioapicOf, view, SameApic, SameProcessor, Same}
 use Rattle.report.specs.Needs.{misses}
 use Rattle.report.proofs.Bits.{one-not-zero}
-use Rattle.report.proofs.Cases.{δx, Case, is-a-step}
+use Rattle.report.proofs.Cases.{δx, adds-none, Case, is-a-step}
 use Rattle.report.proofs.Apics.{apic-refl, min-eoi, put-eoi, fixed-same, init-same, startup-same, idle-same}
 use Rattle.report.proofs.Frames.{SameIo, io-kept, redirect-at, processor-refl, passive, tables-same}
 use Rattle.report.proofs.Lines.{word-bytes, id-same}
@@ -142,7 +143,7 @@ module _ (t m : List ℕ) (e : sound t (length m) ≡ true) (k : ℕ) (h : k < c
     where
       go : (f : Found) → pendingEoi b ≡ f → isVector f ≡ true → Case t m x₁ (toEnd k f)
       go (Vector v) q i =
-          Case.done refl (λ M y. refl) (λ M. record { to = acked M v; is-next = outcome₁ M (Vector v) q; agrees = eoi-same v (ltb-true v 256 i) M })
+          Case.done refl (adds-none t m _ refl) (λ M y. refl) (λ M. record { to = acked M v; is-next = outcome₁ M (Vector v) q; agrees = eoi-same v (ltb-true v 256 i) M })
       go None q i = Case.undefined refl (is-a-step _ refl) (λ M. outcome₁ M None q)
 
 -- ---- ICR
@@ -225,7 +226,7 @@ module _ (t m : List ℕ) (e : sound t (length m) ≡ true) (ws : Words t) (k : 
   b₂ = block t k
 
   wb : Words b₂
-  wb = block-words t k (core-fits t (length m) e k h) ws
+  wb = block-words t k ws
 
   abbrev lo : ℕ
   lo = getD b₂ 73 0
@@ -327,7 +328,7 @@ module _ (t m : List ℕ) (e : sound t (length m) ≡ true) (ws : Words t) (k : 
         let W = words-facts (block t j) (words-of (length m) (block t j) (core-sound t (length m) e j g)) in
         let s : Bool = aimed (targetBy (lo / 2 ^ 18 % 4)) false (eqb (idOf (block t j)) (hi / 2 ^ 24)) in
         let x = field-dsh b₂ wb in
-        let y = id-same (block t j) (block-words t j (core-fits t (length m) e j g) ws) in
+        let y = id-same (block t j) (block-words t j ws) in
         let z = field-dest b₂ wb in
         let other-is : otherBy I j ≡ s = (λ i. (eqb (x i) 0b00 && eqb (y i) (z i)) || eqb (x i) 0b11 || eqb (x i) 0b10) ∙ sym (aimed-other (lo / 2 ^ 18 % 4) (eqb (idOf (block t j)) (hi / 2 ^ 24)) (omega arith)) in
         subst (λ (y : Bool). SameProcessor (withApic (processorOf (block t j)) (if y then δapic (apicOf (block t j)) (messageBy I) else apicOf (block t j))) (processorOf (if s then received (block t j) d (lo % 2 ^ 8) else block t j))) (sym other-is)
@@ -365,7 +366,7 @@ module _ (t m : List ℕ) (e : sound t (length m) ≡ true) (ws : Words t) (k : 
 
     sends : eqb (bit lo 12) 0 ≡ false → eqb (bit lo 11) 0 ≡ false → typed (lo / 2 ^ 8 % 8) ≡ true → Case t m x₂ (action.SendIpi k mm)
     unfolding misses
-    sends f g r = Case.done refl (λ M y. refl) (λ M. record { to = ipi M I; is-next = by-tests M false false true f g r; agrees = ipi-same M })
+    sends f g r = Case.done refl (adds-none t m _ refl) (λ M y. refl) (λ M. record { to = ipi M I; is-next = by-tests M false false true f g r; agrees = ipi-same M })
 
   pub ipi-case : Case t m x₂ (byStep t m x₂)
   unfolding byStep sending

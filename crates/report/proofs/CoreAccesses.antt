@@ -287,10 +287,10 @@ module _ (t m : List ℕ) (e : sound t (length m) ≡ true) (low : Words t) (i :
       good = core-sound t (length m) e i h
 
       store-full : allThere (d x) (length m) a ≡ true → leb 8 (length (v .sb)) ≡ true → K t m i h wI wR (refused 8)
-      unfolding misses
+      unfolding misses view processorOf
       store-full p l =
-          Case.no-store refl i wI wR refl (store-has p) (λ M. allow t m i h wI wR M (guards-hold M)) (λ M. does-as M store ∙ st)
-          (omega (arith, block-few-stores (length m) b good long, leb-true 8 (length (stores b)) l))
+          Case.no-store refl (store-has p) (λ M. allow t m i h wI wR M (guards-hold M))
+          (λ M. record { i = i; wI = wI; wR = wR; is-core = refl; is-store = does-as M store ∙ st; eight = omega (arith, block-few-stores (length m) b good long, leb-true 8 (length (stores b)) l) })
 
       is-free : leb 8 (length (v .sb)) ≡ false → v .free ≡ true
       is-free l = free-there b long (block-linked (length m) b good) (omega (arith, leb-false 8 (length (stores b)) l, block-few-walks (length m) b good long))

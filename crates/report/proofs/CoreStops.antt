@@ -34,7 +34,7 @@ use Rattle.report.specs.Components.{fault, eev, ΣTlb, δtlb}
 use Rattle.report.specs.Delta as report
 use Rattle.report.specs.View.{view, processorOf, memoryOf}
 use Rattle.report.specs.Needs.{misses}
-use Rattle.report.proofs.Cases.{Case}
+use Rattle.report.proofs.Cases.{Case, adds-none}
 use Rattle.report.proofs.Memory.{nothing, consulted}
 use Rattle.report.proofs.Flushed.{page-flushed}
 use Rattle.report.proofs.CoreGuards.{off, holds-unasked, hold-without}
@@ -108,11 +108,11 @@ module _ (t m : List ℕ) (i : ℕ) (h : i < coresOf t) (wI wR : Walk) where
   module _ (e : sound t (length m) ≡ true) (p : Plan) (D : MayBeDone (length m) b p) (q : quiet (p .write) ≡ true) (g : (M : ℕ → ℕ) → guarded t m i h wI wR M ≡ true) (n : (M : ℕ → ℕ) → None t m i h wI wR M) where
     pub interrupts : (l : ℕ) → p .answer ≡ Interrupt l → ((M : ℕ → ℕ) → Lands t m i h wI wR M p (report.interrupt l)) → K t m i h wI wR p
     unfolding misses machine.tablesAfter machine.memoryAfter
-    interrupts l a L = Case.interrupt l a n (λ M. lead t m i h wI wR e p D q M (report.interrupt l) (g M) (L M))
+    interrupts l a L = Case.interrupt l a (adds-none t m _ refl) n (λ M. lead t m i h wI wR e p D q M (report.interrupt l) (g M) (L M))
 
     pub finishes : p .answer ≡ Done → ((M : ℕ → ℕ) → Lands t m i h wI wR M p report.done) → K t m i h wI wR p
     unfolding misses machine.tablesAfter machine.memoryAfter
-    finishes a L = Case.done a n (λ M. lead t m i h wI wR e p D q M report.done (g M) (L M))
+    finishes a L = Case.done a (adds-none t m _ refl) n (λ M. lead t m i h wI wR e p D q M report.done (g M) (L M))
 
   -- an interrupt that stops the instruction, and the walks that go
   module _ (e : sound t (length m) ≡ true) (w ca : ℕ) (ws : WalkChange) (D : MayBeDone (length m) b (stopped v w ca ws)) where

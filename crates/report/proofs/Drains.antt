@@ -33,7 +33,7 @@ use Rattle.cores.specs.declared.Plan.{Plan}
 use Rattle.cores.specs.Plans.{refused, done}
 use Rattle.cores.specs.Buffer.{leavesTo, onOldest}
 use Rattle.cores.specs.Commit.{writtenTo, bufferReady, walksReady, portReady, fits}
-use Rattle.cores.proofs.Decisions.{alignedWrite, MayBeDone, may-be-done, accepted-doable}
+use Rattle.cores.proofs.Decisions.{MayBeDone, drain-plan}
 use Rattle.machine.specs.declared.action.Action.the-variants.{Planned}
 use Rattle.machine.specs.Actions.{tablesAfter, memoryAfter}
 use Rattle.machine.specs.Decide.{byStep}
@@ -44,7 +44,7 @@ use Rattle.report.specs.Delta as report
 use Rattle.report.specs.View.{apicOf, processorOf, ioapicOf, memoryOf, view, Same}
 use Rattle.report.specs.Needs.{noPlace, misses}
 use Rattle.report.proofs.Memory.{inside-from, all-there-at, put-memory}
-use Rattle.report.proofs.Cases.{δx, Has, Case, is-a-step}
+use Rattle.report.proofs.Cases.{δx, Has, adds-none, Case, is-a-step}
 use Rattle.report.proofs.Frames.{SameIo, portWhole, apicWrite, io-still, io-moved, plan-processor, plan-same}
 
 -- ---- a sound store
@@ -136,13 +136,6 @@ module _ (t m : List ℕ) (e : sound t (length m) ≡ true) (k : ℕ) (h : k < c
   abbrev plan : Write → Plan
   plan w = done Take WalkChange.Nothing w
 
-  may : (w : Write) → portReady w ≡ true → fits w n ≡ true → alignedWrite w ≡ true → MayBeDone n b (plan w)
-  unfolding bufferReady walksReady
-  may w r f g =
-      may-be-done
-      (accepted-doable n b refl
-      (record { buffer-ready = lt-ltb 0 (length (stores b)) (omega (arith, ap length q)); store-sound = refl; walks-ready = refl; walk-sound = refl; port-ready = r; fitting = f; aligning = g }))
-
   leads : (w : Write) (D : MayBeDone n b (plan w)) → portWhole w → (M f : ℕ → ℕ) (io : IoApic) → ((y : ℕ) → y < 2 ^ 32 → f y ≡ memoryOf (writtenTo w m) M y) →
       SameIo io (ioapicOf (tablesAfter (Planned k (plan w)) t)) →
       Same
@@ -173,56 +166,58 @@ module _ (t m : List ℕ) (e : sound t (length m) ≡ true) (k : ℕ) (h : k < c
   word : eqb (s .width) 4 ≡ true → a % 4 ≡ 0
   word f = subst (λ (d : ℕ). a % d ≡ 0) (eqb-true (s .width) 4 f) (S .multiple)
 
-  to-local : localPort a ≡ true → (z : Bool) → eqb (s .width) 4 ≡ z → Case t m x (Planned k (leavesTo s (if z then to.LocalPort (apicadr a) else to.Narrow)))
-  unfolding leavesTo portReady fits alignedWrite writtenTo tablesAfter
-  to-local p true f =
+  to-local : localPort a ≡ true → (z : Bool) → eqb (s .width) 4 ≡ z → MayBeDone n b (leavesTo s (if z then to.LocalPort (apicadr a) else to.Narrow)) →
+      Case t m x (Planned k (leavesTo s (if z then to.LocalPort (apicadr a) else to.Narrow)))
+  unfolding leavesTo writtenTo tablesAfter
+  to-local p true f D =
       let w : Write = LocalPort (apicadr a) (s .value) in
-      let D = may w (lt-ltb (apicadr a) 128 (omega arith)) refl refl in
-      Case.done refl has
+      Case.done refl (adds-none t m _ refl) has
       (λ M.
       record {
         to = left M true false;
         is-next = outcome M true false true y p (one-port a p) f refl;
         agrees = leads w D (omega (arith, word f)) M (memoryOf m M) (ioapicOf t) (λ y o. refl) (io-still t m k (plan w) e h D refl);
       })
-  to-local p false f = stays true false false y p (one-port a p) f refl refl
+  to-local p false f D = stays true false false y p (one-port a p) f refl refl
 
-  to-io : localPort a ≡ false → ioPort a ≡ true → (z c : Bool) → eqb (s .width) 4 ≡ z → y ≡ c → Case t m x (Planned k (leavesTo s (if z then to.IoPort (ioapicadr a) else to.Narrow)))
-  unfolding leavesTo portReady fits alignedWrite writtenTo tablesAfter
+  to-io : localPort a ≡ false → ioPort a ≡ true → (z c : Bool) → eqb (s .width) 4 ≡ z → y ≡ c → MayBeDone n b (leavesTo s (if z then to.IoPort (ioapicadr a) else to.Narrow)) →
+      Case t m x (Planned k (leavesTo s (if z then to.IoPort (ioapicadr a) else to.Narrow)))
+  unfolding leavesTo writtenTo tablesAfter
   to-io p r true true f g =
       let w : Write = IoPort (ioapicadr a) (s .value) in
-      let D = may w refl g refl in
       rw g
-      (Case.done refl has
+      (λ D. Case.done refl (adds-none t m _ refl) has
       (λ M.
       record {
         to = left M false true;
         is-next = outcome M false true true true p r f g;
         agrees = leads w D tt M (memoryOf m M) (δioapic (ioapicOf t) (ΣIoApic.write (ioapicadr a) (s .value))) (λ y o. refl) (io-moved t m k (plan w) e h D (ioapicadr a) (s .value) refl g);
       }))
-  to-io p r true false f g = rw g (stays false true true false p r f g refl)
-  to-io p r false c f g = stays false true false c p r f g refl
+  to-io p r true false f g = rw g (λ D. stays false true true false p r f g refl)
+  to-io p r false c f g = λ D. stays false true false c p r f g refl
 
-  to-memory : localPort a ≡ false → ioPort a ≡ false → (c : Bool) → leb (a + s .width) n ≡ c → Case t m x (Planned k (leavesTo s (if c then to.Memory else to.Beyond)))
-  unfolding leavesTo portReady fits alignedWrite aligned writtenTo tablesAfter δm
-  to-memory p r true f =
+  to-memory : localPort a ≡ false → ioPort a ≡ false → (c : Bool) → leb (a + s .width) n ≡ c → MayBeDone n b (leavesTo s (if c then to.Memory else to.Beyond)) →
+      Case t m x (Planned k (leavesTo s (if c then to.Memory else to.Beyond)))
+  unfolding leavesTo writtenTo tablesAfter δm
+  to-memory p r true f D =
       let w : Write = Memory a (s .width) (s .value) in
-      let D = may w refl (and-both (sized (s .width)) _ (S .wide) f) (and-both (sized (s .width)) _ (S .wide) (eq-eqb (a % s .width) 0 (S .multiple))) in
-      Case.done refl has
+      Case.done refl (adds-none t m _ refl) has
       (λ M.
       record {
         to = left M false false;
         is-next = outcome M false false (eqb (s .width) 4) y p r refl refl;
         agrees = leads w D tt M (δm (memoryOf m M) (ΣM.write s)) (ioapicOf t) (λ z o. sym (put-memory (s .width) m M a (s .value) z (leb-true (a + s .width) n f))) (io-still t m k (plan w) e h D refl);
       })
-  to-memory p r false f = absurd (omega (arith, leb-false (a + s .width) n f, in-memory n s (quarters t n e) S p r))
+  to-memory p r false f D = absurd (omega (arith, leb-false (a + s .width) n f, in-memory n s (quarters t n e) S p r))
 
-  leaves : Case t m x (Planned k (leavesTo s (target n s)))
+  leaves : MayBeDone n b (leavesTo s (target n s)) → Case t m x (Planned k (leavesTo s (target n s)))
   unfolding target
   leaves = go (localPort a) (ioPort a) refl refl
     where
-      go : (l i : Bool) → localPort a ≡ l → ioPort a ≡ i →
-          Case t m x (Planned k (leavesTo s (if l then wordOnly s (to.LocalPort (apicadr a)) else if i then wordOnly s (to.IoPort (ioapicadr a)) else if leb (a + s .width) n then to.Memory else to.Beyond)))
+      by : Bool → Bool → Plan
+      by l i = leavesTo s (if l then wordOnly s (to.LocalPort (apicadr a)) else if i then wordOnly s (to.IoPort (ioapicadr a)) else if leb (a + s .width) n then to.Memory else to.Beyond)
+
+      go : (l i : Bool) → localPort a ≡ l → ioPort a ≡ i → MayBeDone n b (by l i) → Case t m x (Planned k (by l i))
       go true i p r = to-local p (eqb (s .width) 4) refl
       go false true p r = to-io p r (eqb (s .width) 4) y refl refl
       go false false p r = to-memory p r (leb (a + s .width) n) refl
@@ -230,8 +225,9 @@ module _ (t m : List ℕ) (e : sound t (length m) ≡ true) (k : ℕ) (h : k < c
 module _ (t m : List ℕ) (e : sound t (length m) ≡ true) (k : ℕ) (h : k < coresOf t) where
   pub buffer-case : Case t m (kind.StoreBuffer k) (byStep t m (kind.StoreBuffer k))
   unfolding byStep onOldest all report.δ report.sbStep view processorOf
-  buffer-case = go (stores (block t k)) refl (block-stores (length m) (block t k) (core-sound t (length m) e k h))
+  buffer-case = go (stores (block t k)) refl (block-stores (length m) (block t k) (core-sound t (length m) e k h)) (drain-plan (length m) (block t k) (core-sound t (length m) e k h))
     where
-      go : (l : List Store) → stores (block t k) ≡ l → all (storeSound (length m)) l ≡ true → Case t m (kind.StoreBuffer k) (Planned k (onOldest (length m) (oldest l)))
-      go [] q a = Case.undefined refl (is-a-step _ refl) (λ M. rw (lt-ltb k (coresOf t) h, q))
-      go (s ∷ sb) q a = leaves t m e k h s sb q (store-facts (length m) s (and-left (storeSound (length m) s) _ a))
+      go : (l : List Store) → stores (block t k) ≡ l → all (storeSound (length m)) l ≡ true → MayBeDone (length m) (block t k) (onOldest (length m) (oldest l)) →
+          Case t m (kind.StoreBuffer k) (Planned k (onOldest (length m) (oldest l)))
+      go [] q a D = Case.undefined refl (is-a-step _ refl) (λ M. rw (lt-ltb k (coresOf t) h, q))
+      go (s ∷ sb) q a D = leaves t m e k h s sb q (store-facts (length m) s (and-left (storeSound (length m) s) _ a)) D

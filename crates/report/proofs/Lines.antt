@@ -21,7 +21,8 @@ use Rattle.tables.proofs.Lift.{header, core-long, core-fits}
 use Rattle.apic.specs.Vectors.{withBit}
 use Rattle.apic.specs.LocalApic.{idOf, fixed, irr}
 use Rattle.apic.proofs.Bits.{bit-lt, bit-same, bit-other}
-use Rattle.apic.proofs.Kept.{Words, Passive, kept-all, kept-vector, kept-if}
+use Rattle.word.proofs.Words.{Words}
+use Rattle.apic.proofs.Kept.{Passive, kept-all, kept-vector, kept-if}
 use Rattle.ioapic.specs.IoApic.{entry, dest, vect, rirr, ds, maySample, sampled, mayDeliver, handed}
 use Rattle.ioapic.specs.Bus.{deliver}
 use Rattle.ioapic.proofs.Blocks.{block-words}
@@ -38,7 +39,7 @@ use Rattle.report.specs.Delta as report
 use Rattle.report.specs.View.{apicOf, processorOf, ioapicOf, view, SameProcessor, Same}
 use Rattle.report.specs.Needs.{misses}
 use Rattle.report.proofs.Bits.{zero-not-one}
-use Rattle.report.proofs.Cases.{δx, Case, is-a-step}
+use Rattle.report.proofs.Cases.{δx, adds-none, Case, is-a-step}
 use Rattle.report.proofs.Apics.{upd-case, apic-refl, fixed-same}
 use Rattle.report.proofs.Frames.{io-refl, io-then, io-kept, redirect-at, entry-same, processor-of, processor-refl, passive, tables-same}
 
@@ -75,7 +76,7 @@ module _ (t m : List ℕ) (e : sound t (length m) ≡ true) (l v : ℕ) (h : l <
   line-case =
       let w : ℕ = withBit (linesOf t) l v in
       let s : getD (set t 3 w) 3 0 ≡ w = getD-set-same t 3 w 0 (omega (arith, header-words t (length m) e)) in
-      Case.done refl (λ M y. refl)
+      Case.done refl (adds-none t m _ refl) (λ M y. refl)
       (λ M.
       record {
         to = lined M;
@@ -122,7 +123,7 @@ module _ (t m : List ℕ) (e : sound t (length m) ≡ true) (l : ℕ) (h : l < 2
   sample-case = go (maySample t l) refl
     where
       go : (g : Bool) → maySample t l ≡ g → Case t m x₂ (ifAllowed g (action.Sample l))
-      go true q = Case.done refl (λ M y. refl) (λ M. record { to = sample M; is-next = outcome₂ M true q; agrees = sample-same M })
+      go true q = Case.done refl (adds-none t m _ refl) (λ M y. refl) (λ M. record { to = sample M; is-next = outcome₂ M true q; agrees = sample-same M })
       go false q = Case.undefined refl (is-a-step _ refl) (λ M. outcome₂ M false q)
 
 -- ---- the words of the local APIC's ports
@@ -176,7 +177,7 @@ module _ (t m : List ℕ) (e : sound t (length m) ≡ true) (ws : Words t) (l : 
   unfolding processorOf
   gives j g =
       let b : List ℕ = block t j in
-      let w = block-words t j (core-fits t (length m) e j g) ws in
+      let w = block-words t j ws in
       let d : field 31 24 en ≡ dest en = omega (arith, ws (6 + l)) in
       let v : field 7 0 en ≡ vect en = omega arith in
       subst (λ (c : List ℕ). SameProcessor (withApic (processorOf b) (given en j)) (processorOf c)) (sym (deliver-block n t (header t (length m) e .long) l h j g))
@@ -211,5 +212,5 @@ module _ (t m : List ℕ) (e : sound t (length m) ≡ true) (ws : Words t) (l : 
   deliver-case = go (mayDeliver t l) refl
     where
       go : (g : Bool) → mayDeliver t l ≡ g → Case t m x₃ (ifAllowed g (action.Deliver l))
-      go true q = Case.done refl (λ M y. refl) (λ M. record { to = delivers M en; is-next = outcome₃ M true q; agrees = deliver-same M })
+      go true q = Case.done refl (adds-none t m _ refl) (λ M y. refl) (λ M. record { to = delivers M en; is-next = outcome₃ M true q; agrees = deliver-same M })
       go false q = Case.undefined refl (is-a-step _ refl) (λ M. outcome₃ M false q)

@@ -1,4 +1,5 @@
--- Demand 1: step answers what 01 lists, and a refusal leaves memory and every word of the tables but its count.
+-- Demand 1: step answers what 01 lists, 4 on tables that are not sound and on no others; a refusal leaves memory and every word of the tables but its
+-- count; words stay words, bytes bytes, and sound tables sound.
 -- Assumes nothing.
 use mathlib.Core.Path.{_≡_, refl, sym, _∙_, ap}
 use mathlib.Core.Bool.{Bool, true, false}
@@ -11,6 +12,7 @@ use native.Mathlib.Omega.{arith}
 use borrow.Author.Tests.{leb-true, le-leb, ne-eqb, eq-eqb}
 use Rattle.word.specs.Word.{if_then_else_}
 use Rattle.layout.specs.Layout.{refusals}
+use Rattle.word.proofs.Tests.{true-false}
 use Rattle.records.proofs.Counts.{and-left, and-right, and-both}
 use Rattle.tables.specs.Views.{refusalsOf}
 use Rattle.tables.specs.Sound.{sound}
@@ -20,11 +22,12 @@ use Rattle.machine.specs.Actions.{answerOf}
 use Rattle.machine.specs.Decide.{decided}
 use Rattle.machine.specs.Step.{Stepped, counted, taken, step}
 use Rattle.machine.proofs.Fitting.{header-words}
-use Rattle.machine.proofs.Keeping.{refused-count}
+use Rattle.machine.proofs.Keeping.{refused-count, step-sound}
+use Rattle.machine.proofs.Words.{step-words, step-bytes}
 use Rattle.machine.proofs.Taking.{taken-refused, not-sound, is-sound}
 use Rattle.machine.proofs.Levels as levels
 use Rattle.machine.proofs.Answers.{after-answer, taken-known}
-use Rattle.report.specs.Demands.{countAfter, Left, known, Demand1}
+use Rattle.report.specs.Demands.{countAfter, Left, known, Answered, Demand1}
 
 -- what is answered on sound tables is one of the answers, and no refusal 4
 weaker : (x : Answer) → levels.known x ≡ true → known x ≡ true
@@ -79,5 +82,21 @@ module _ (t m s : List ℕ) where
         let R = refused-count t m s n a in
         record { memory = R .0; long = R .1 .long; words = R .1 .same; count = count }
 
+  four : sound t (length m) ≡ false → step t m s ≡ record { answer = Refused 4; tables = t; memory = m }
+  unfolding step
+  four e = rw e refl
+
+  no-four : sound t (length m) ≡ true → step t m s .answer ≡ Refused 4 → ⊥
+  no-four e a = true-false (not-four 4 (ap levels.known (sym (ap (λ (r : Stepped). r .answer) (is-sound t m s e) ∙ a)) ∙ taken-known t m s))
+
 pub demand1 : Demand1
-demand1 t m s = (answers t m s, left t m s)
+demand1 t m s =
+    record {
+      answer = answers t m s;
+      four = four t m s;
+      not-four = no-four t m s;
+      refused = left t m s;
+      words = step-words t m s;
+      bytes = step-bytes t m s;
+      stays-sound = λ ws bs e. step-sound t m s e ws bs;
+    }

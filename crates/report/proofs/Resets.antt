@@ -33,7 +33,7 @@ use Rattle.report.specs.Delta as report
 use Rattle.report.specs.View.{apicOf, processorOf, view, SameApic, SameProcessor, Same}
 use Rattle.report.specs.Needs.{misses}
 use Rattle.report.proofs.Bits.{zero-not-one}
-use Rattle.report.proofs.Cases.{δx, Case, is-a-step}
+use Rattle.report.proofs.Cases.{δx, adds-none, Case, is-a-step}
 use Rattle.report.proofs.Apics.{eoi-bit}
 use Rattle.report.proofs.Frames.{block-same}
 
@@ -141,7 +141,7 @@ module _ (t m : List ℕ) (e : sound t (length m) ≡ true) (k : ℕ) (h : k < c
   init-case = go (mayInit b) refl
     where
       go : (g : Bool) → mayInit b ≡ g → Case t m x₁ (ifAllowed g (action.InitCore k))
-      go true q = Case.done refl (λ M y. refl) (λ M. record { to = inited M; is-next = outcome₁ M true q; agrees = init-same M })
+      go true q = Case.done refl (adds-none t m _ refl) (λ M y. refl) (λ M. record { to = inited M; is-next = outcome₁ M true q; agrees = init-same M })
       go false q = Case.undefined refl (is-a-step _ refl) (λ M. outcome₁ M false q)
 
   -- ---- apic-startCore
@@ -214,5 +214,5 @@ module _ (t m : List ℕ) (e : sound t (length m) ≡ true) (k : ℕ) (h : k < c
   start-case = go (mayStart b) refl
     where
       go : (g : Bool) → mayStart b ≡ g → Case t m x₂ (ifAllowed g (action.StartCore k))
-      go true q = Case.done refl (λ M y. refl) (λ M. record { to = started M; is-next = outcome₂ M true q; agrees = start-same M })
+      go true q = Case.done refl (adds-none t m _ refl) (λ M y. refl) (λ M. record { to = started M; is-next = outcome₂ M true q; agrees = start-same M })
       go false q = Case.undefined refl (is-a-step _ refl) (λ M. outcome₂ M false q)

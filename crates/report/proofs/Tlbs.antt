@@ -23,12 +23,13 @@ use Rattle.tables.specs.Sound.{sound}
 use Rattle.tables.proofs.Lift.{core-fits, core-long, core-sound}
 use Rattle.tables.proofs.Steps.{block-linked, block-few-stores, block-few-walks, block-walks}
 use Rattle.tlb.specs.declared.Entry.the-variants.{Word, Missing}
+use Rattle.tlb.specs.declared.Decision.{Decision}
 use Rattle.tlb.specs.declared.Decision.the-variants as tlb
 use Rattle.tlb.specs.Walks.{baseAddress, pteA, pteP, ptea, entryAt, walkAsid, complete, winit, wext, wextFault, suffices, set-d}
 use Rattle.tlb.specs.Steps.{userMode, runs, asidOf, originOf, extendable, tlbCreate, onExtend, tlbExtend, onAccessed, tlbAccessed}
 use Rattle.tlb.proofs.Fields.{same-walk, ptea-aligned, winit-sound, wext-sound}
 use Rattle.tlb.proofs.Steps.{held-sound, is-held}
-use Rattle.apic.proofs.Kept.{Words}
+use Rattle.word.proofs.Words.{Words}
 use Rattle.ioapic.proofs.Blocks.{block-words}
 use Rattle.steps.specs.declared.Answer.the-variants.{Refused}
 use Rattle.steps.specs.declared.Step.{Step}
@@ -43,7 +44,7 @@ use Rattle.cores.specs.Plans.{refused, done}
 use Rattle.cores.specs.Core.{isFree}
 use Rattle.cores.specs.Walks.{adding, planned}
 use Rattle.cores.specs.Commit.{writtenTo, walksReady}
-use Rattle.cores.proofs.Decisions.{MayBeDone, may-be-done, accepted-doable, walks-change, word-change}
+use Rattle.cores.proofs.Decisions.{MayBeDone, create-plan, extend-plan, accessed-plan}
 use Rattle.machine.specs.declared.action.Action.{Action}
 use Rattle.machine.specs.declared.action.Action.the-variants.{Planned}
 use Rattle.machine.specs.Actions.{answerOf, tablesAfter, memoryAfter}
@@ -54,10 +55,10 @@ use Rattle.report.specs.Components.{bytes, inside, ΣM, δm, ΣTlb, δtl
 use Rattle.report.specs.Delta as report
 use Rattle.report.specs.View.{processorOf, ioapicOf, memoryOf, view, Same}
 use Rattle.report.specs.Needs.{noByte, misses}
-use Rattle.report.specs.Demands.{Allowed, Crowded}
+use Rattle.report.specs.Demands.{Allowed, Adds, Crowded}
 use Rattle.report.proofs.Bits.{and-assoc, and-comm, and-swap}
 use Rattle.report.proofs.Memory.{memory-out, memory-bytes, bytes-step, inside-from, inside-is, put-memory, ptea-low}
-use Rattle.report.proofs.Cases.{δx, Has, Case, is-a-step}
+use Rattle.report.proofs.Cases.{δx, Has, Roomy, adds-none, Case, is-a-step}
 use Rattle.report.proofs.Frames.{spr-at, mode-same, asid-same, free-there, io-still, plan-processor, plan-same, plan-memory-same}
 
 -- ---- the walks as a set
@@ -96,41 +97,45 @@ module _ (t m : List ℕ) (e : sound t (length m) ≡ true) (k : ℕ) (h : k < c
   abbrev plan : Plan
   plan = done BufferChange.Nothing (Add w) Write.Nothing
 
-  may : walkSound w ≡ true → walksReady (Add w) b ≡ true → MayBeDone (length m) b plan
-  may s r = may-be-done (accepted-doable (length m) b refl (walks-change (length m) b (Add w) r s))
-
-  leads : walkSound w ≡ true → walksReady (Add w) b ≡ true → (M : ℕ → ℕ) → Same (added M) (view (tablesAfter (Planned k plan) t) (memoryAfter (Planned k plan) m) M)
+  leads : MayBeDone (length m) b plan → (M : ℕ → ℕ) → Same (added M) (view (tablesAfter (Planned k plan) t) (memoryAfter (Planned k plan) m) M)
   unfolding view processorOf tablesAfter memoryAfter writtenTo
-  leads s r M =
-      let D = may s r in
+  leads D M =
       plan-same t m k plan e h D M (withTlb (processorOf b) (δtlb (λ x. among x (walks b)) (ΣTlb.addWalk w))) (memoryOf m M) (ioapicOf t)
       (plan-processor (length m) plan b (core-long t (length m) e k h) (core-sound t (length m) e k h) (D .is-ready) (D .is-sound) tt (δtlb (λ x. among x (walks b)) (ΣTlb.addWalk w)) (add-among w (walks b)))
       (λ x l. refl)
       (io-still t m k plan e h D refl)
 
   -- what the step x comes to, which adds w by δ too
-  module _ (x : Step) (s : walkSound w ≡ true) (has : Has t m x) (next : (M : ℕ → ℕ) → δx t m x M ≡ report.next (added M) report.done)
-      (full : (A : Action) → answerOf A ≡ Refused 9 → ((M : ℕ → ℕ) → Allowed (δx t m x M)) → ((s : List ℕ) → Crowded t m s k w) → Case t m x A) where
-    placed : walksReady (Add w) b ≡ true → Case t m x (Planned k plan)
-    placed r = Case.done refl has (λ M. record { to = added M; is-next = next M; agrees = leads s r M })
+  module _ (x : Step) (has : Has t m x) (next : (M : ℕ → ℕ) → δx t m x M ≡ report.next (added M) report.done)
+      (that : (M : ℕ → ℕ) → Adds t m x M k w) (only : (M : ℕ → ℕ) (i : ℕ) (v : Walk) → Adds t m x M i v → (i ≡ k) × (v ≡ w)) where
+    room : among w (walks b) || ltb (length (walks b)) 23 ≡ true → Roomy t m x
+    unfolding view processorOf
+    room r M C =
+        let o = only M (C .i) (C .w) (C .adds) in
+        let new : among w (walks b) ≡ false = ap₂ (λ (j : ℕ) (v : Walk). among v (walks (block t j))) (sym (o .0)) (sym (o .1)) ∙ C .new in
+        let held : length (walks b) ≡ 23 = ap (λ (j : ℕ). length (walks (block t j))) (sym (o .0)) ∙ C .held in
+        true-false (sym r ∙ ap (λ (y : Bool). y || ltb (length (walks b)) 23) new ∙ le-ltb (length (walks b)) 23 (omega arith))
 
-    pub adds : Case t m x (Planned k (adding (walks b) (isFree b) w))
-    unfolding adding walksReady view processorOf
+    placed : among w (walks b) || ltb (length (walks b)) 23 ≡ true → MayBeDone (length m) b plan → Case t m x (Planned k plan)
+    placed r D = Case.done refl (room r) has (λ M. record { to = added M; is-next = next M; agrees = leads D M })
+
+    pub adds : MayBeDone (length m) b (adding (walks b) (isFree b) w) → Case t m x (Planned k (adding (walks b) (isFree b) w))
+    unfolding adding view processorOf
     adds = go (among w (walks b)) (leb 23 (length (walks b))) (isFree b) refl refl refl
       where
         n : length (walks b) ≤ 23
         n = block-few-walks (length m) b (core-sound t (length m) e k h) (core-long t (length m) e k h)
 
-        crowded : among w (walks b) ≡ false → leb 23 (length (walks b)) ≡ true → (s : List ℕ) → Crowded t m s k w
-        crowded p q s = record { new = p; held = omega (arith, n, leb-true 23 (length (walks b)) q) }
+        crowded : among w (walks b) ≡ false → leb 23 (length (walks b)) ≡ true → (M : ℕ → ℕ) → Crowded t m x M
+        crowded p q M = record { i = k; w = w; adds = that M; new = p; held = omega (arith, n, leb-true 23 (length (walks b)) q) }
 
         go : (a f r : Bool) → among w (walks b) ≡ a → leb 23 (length (walks b)) ≡ f → isFree b ≡ r →
-            Case t m x (Planned k (if not a && f then refused 9 else if not a && not r then refused 10 else plan))
-        go true f r p q z = placed (ap (λ (y : Bool). y || ltb (length (walks b)) 23) p)
-        go false true r p q z = full _ refl (λ M. record { to = added M; answer = report.done; is-next = next M }) (crowded p q)
-        go false false true p q z =
-            placed (ap (λ (y : Bool). y || ltb (length (walks b)) 23) p ∙ lt-ltb (length (walks b)) 23 (leb-false 23 (length (walks b)) q))
-        go false false false p q z =
+            MayBeDone (length m) b (if not a && f then refused 9 else if not a && not r then refused 10 else plan) → Case t m x (Planned k (if not a && f then refused 9 else if not a && not r then refused 10 else plan))
+        go true f r p q z D = placed (ap (λ (y : Bool). y || ltb (length (walks b)) 23) p) D
+        go false true r p q z D = Case.no-walk refl has (λ M. record { to = added M; answer = report.done; is-next = next M }) (crowded p q)
+        go false false true p q z D =
+            placed (ap (λ (y : Bool). y || ltb (length (walks b)) 23) p ∙ lt-ltb (length (walks b)) 23 (leb-false 23 (length (walks b)) q)) D
+        go false false false p q z D =
             absurd
             (true-false
             (sym (free-there b (core-long t (length m) e k h) (block-linked (length m) b (core-sound t (length m) e k h))
@@ -139,7 +144,7 @@ module _ (t m : List ℕ) (e : sound t (length m) ≡ true) (k : ℕ) (h : k < c
 
 -- ---- tlb-create
 
-module _ (t m : List ℕ) (e : sound t (length m) ≡ true) (ws : Words t) (k : ℕ) (h : k < coresOf t) (va : ℕ) where
+module _ (t m : List ℕ) (e : sound t (length m) ≡ true) (ws : Words t) (k : ℕ) (h : k < coresOf t) (va : ℕ) (low : va < 2 ^ 20) where
   abbrev b₁ : List ℕ
   b₁ = block t k
 
@@ -154,17 +159,26 @@ module _ (t m : List ℕ) (e : sound t (length m) ≡ true) (ws : Words t) (k : 
   unfolding report.δ report.tlbCreate view processorOf
   outcome M g q = rw (lt-ltb k (coresOf t) h, mode-same b₁, q, spr-at b₁ at.pto (omega arith), asid-same b₁)
 
+  only : (M : ℕ → ℕ) (i : ℕ) (v : Walk) → Adds t m (kind.TlbCreate k va) M i v → (i ≡ k) × (v ≡ new)
+  only M i v (Adds.creates j y q) =
+      let p : j ≡ k = cc in
+      let z : y ≡ va = cc in
+      (p, ap₂ (λ (l o : ℕ). report.created (view t m M) l o) p z ∙ new-same M)
+  only M i v (Adds.extends j y q) = absurd (let z : _≡_ {A = ℕ} 0 1 = cc in omega arith)
+
   pub create-case : Case t m (kind.TlbCreate k va) (byStep t m (kind.TlbCreate k va))
   unfolding byStep tlbCreate planned misses
-  create-case = go (userMode b₁ && runs b₁) refl
+  create-case = go (userMode b₁ && runs b₁) refl (create-plan b₁ m va low (block-words t k ws (at.spr + at.pto)))
     where
-      go : (g : Bool) → (userMode b₁ && runs b₁) ≡ g → Case t m (kind.TlbCreate k va) (Planned k (planned (walks b₁) (isFree b₁) (if g then tlb.Adds new else tlb.Refused 6)))
-      go true q =
-          let word = block-words t k (core-fits t (length m) e k h) ws (at.spr + at.pto) in
-          adds t m e k h new (kind.TlbCreate k va) (winit-sound va (originOf b₁) (asidOf b₁) (omega arith) (omega arith)) (λ M y. refl)
+      plan₁ : Bool → Plan
+      plan₁ g = planned (walks b₁) (isFree b₁) (if g then tlb.Adds new else tlb.Refused 6)
+
+      go : (g : Bool) → (userMode b₁ && runs b₁) ≡ g → MayBeDone (length m) b₁ (plan₁ g) → Case t m (kind.TlbCreate k va) (Planned k (plan₁ g))
+      go true q D =
+          adds t m e k h new (kind.TlbCreate k va) (λ M y. refl)
           (λ M. outcome M true q)
-          (λ A a n c. Case.no-create a k va refl (λ M y. refl) n (λ s M. subst (λ (w : Walk). Crowded t m s k w) (sym (new-same M)) (c s)))
-      go false q = Case.undefined refl (is-a-step _ refl) (λ M. outcome M false q)
+          (λ M. subst (λ (w : Walk). Adds t m (kind.TlbCreate k va) M k w) (new-same M) (Adds.creates k va refl)) only D
+      go false q D = Case.undefined refl (is-a-step _ refl) (λ M. outcome M false q)
 
 -- ---- an entry that is not in memory may be any
 
@@ -237,9 +251,17 @@ module _ (t m : List ℕ) (e : sound t (length m) ≡ true) (bs : Bytes m) (k : 
   present₂ : ptea w + 4 ≤ length m → (M : ℕ → ℕ) → bytes 4 (memoryOf m M) (ptea w) ≡ bytesAt 4 m (ptea w)
   present₂ l M = memory-bytes m M 4 (ptea w) (ptea-low w) l
 
+  only₂ : ptea w + 4 ≤ length m → (M : ℕ → ℕ) (i : ℕ) (y : Walk) → Adds t m x₂ M i y → (i ≡ k) × (y ≡ wext w (bytesAt 4 m (ptea w)))
+  unfolding view
+  only₂ l M i v (Adds.extends j y q) =
+      let p : j ≡ k = cc in
+      let z : y ≡ w = cc in
+      (p, ap (λ (x : Walk). wext x (bytes 4 (memoryOf m M) (ptea x))) z ∙ ap (wext w) (present₂ l M))
+  only₂ l M i v (Adds.creates j y q) = absurd (let z : _≡_ {A = ℕ} 0 1 = cc in omega arith)
+
   pub extend-case : Case t m x₂ (byStep t m x₂)
   unfolding byStep tlbExtend onExtend planned misses entryAt wextFault suffices view
-  extend-case = go may-extend refl (leb (ptea w + 4) (length m)) refl
+  extend-case = go may-extend refl (leb (ptea w + 4) (length m)) refl (extend-plan b₂ m w (core-sound t (length m) e k h) bs)
     where
       v : ℕ
       v = bytesAt 4 m (ptea w)
@@ -248,21 +270,22 @@ module _ (t m : List ℕ) (e : sound t (length m) ≡ true) (bs : Bytes m) (k : 
           δx t m x₂ M ≡ (if g && d then report.next (added t m e k h (wext w n) M) report.done else report.none)
       ifs g d M n p q r = outcome₂ M n r ∙ ap₂ (λ (i j : Bool). if i && j then report.next (added t m e k h (wext w n) M) report.done else report.none) p q
 
-      by-entry : may-extend ≡ true → ptea w + 4 ≤ length m → (d : Bool) → extends v ≡ d →
-          Case t m x₂ (Planned k (planned (walks b₂) (isFree b₂) (if d then tlb.Adds (wext w v) else tlb.Refused 6)))
-      by-entry p l true q =
-          let s = held-sound w (walks b₂) (is-held (runs b₂) (asidOf b₂) (walks b₂) w p) (block-walks (length m) b₂ (core-sound t (length m) e k h)) in
-          adds t m e k h (wext w v) x₂ (wext-sound w v s (bytes-lt 4 m (ptea w) bs)) (λ M y. entry-has t m e w l y)
-          (λ M. ifs true true M v p q (present₂ l M))
-          (λ A a n c. Case.no-extend a k w refl (λ M y. entry-has t m e w l y) n
-          (λ s M. subst (λ (z : ℕ). Crowded t m s k (wext w z)) (sym (present₂ l M)) (c s)))
-      by-entry p l false q = Case.undefined refl (is-a-step x₂ refl) (λ M. ifs true false M v p q (present₂ l M))
+      plan₂ : Decision → Plan
+      plan₂ d = planned (walks b₂) (isFree b₂) d
 
-      go : (g : Bool) → may-extend ≡ g → (i : Bool) → leb (ptea w + 4) (length m) ≡ i →
-          Case t m x₂ (Planned k (planned (walks b₂) (isFree b₂) (if g then onExtend w (if i then Word v else Missing) else tlb.Refused 6)))
-      go false p i l = Case.undefined refl (is-a-step x₂ refl) (λ M. ifs false (extends (bytes 4 (memoryOf m M) (ptea w))) M (bytes 4 (memoryOf m M) (ptea w)) p refl refl)
-      go true p true l = by-entry p (leb-true (ptea w + 4) (length m) l) (extends v) refl
-      go true p false l =
+      by-entry : may-extend ≡ true → ptea w + 4 ≤ length m → (d : Bool) → extends v ≡ d → MayBeDone (length m) b₂ (plan₂ (if d then tlb.Adds (wext w v) else tlb.Refused 6)) →
+          Case t m x₂ (Planned k (plan₂ (if d then tlb.Adds (wext w v) else tlb.Refused 6)))
+      by-entry p l true q D =
+          adds t m e k h (wext w v) x₂ (λ M y. entry-has t m e w l y)
+          (λ M. ifs true true M v p q (present₂ l M))
+          (λ M. subst (λ (z : ℕ). Adds t m x₂ M k (wext w z)) (present₂ l M) (Adds.extends k w refl)) (only₂ l) D
+      by-entry p l false q D = Case.undefined refl (is-a-step x₂ refl) (λ M. ifs true false M v p q (present₂ l M))
+
+      go : (g : Bool) → may-extend ≡ g → (i : Bool) → leb (ptea w + 4) (length m) ≡ i → MayBeDone (length m) b₂ (plan₂ (if g then onExtend w (if i then Word v else Missing) else tlb.Refused 6)) →
+          Case t m x₂ (Planned k (plan₂ (if g then onExtend w (if i then Word v else Missing) else tlb.Refused 6)))
+      go false p i l D = Case.undefined refl (is-a-step x₂ refl) (λ M. ifs false (extends (bytes 4 (memoryOf m M) (ptea w))) M (bytes 4 (memoryOf m M) (ptea w)) p refl refl)
+      go true p true l D = by-entry p (leb-true (ptea w + 4) (length m) l) (extends v) refl D
+      go true p false l D =
           Case.no-byte refl (ptea w) (λ M. entry-misses t m e w l) ones (λ y. omega arith)
           (record { to = added t m e k h (wext w (2 ^ 32 - 1)) ones; answer = report.done; is-next = ifs true true ones (2 ^ 32 - 1) p refl (any-entry t m e w l) })
 
@@ -295,10 +318,9 @@ module _ (t m : List ℕ) (e : sound t (length m) ≡ true) (k : ℕ) (h : k < c
   abbrev marks : ℕ → Plan
   marks v = done BufferChange.Nothing WalkChange.Nothing (Memory (ptea w) 4 (set-d v))
 
-  marks-leads : (v : ℕ) → ptea w + 4 ≤ length m → (M : ℕ → ℕ) → Same (marked M v) (view (tablesAfter (Planned k (marks v)) t) (memoryAfter (Planned k (marks v)) m) M)
+  marks-leads : (v : ℕ) → ptea w + 4 ≤ length m → MayBeDone (length m) b₃ (marks v) → (M : ℕ → ℕ) → Same (marked M v) (view (tablesAfter (Planned k (marks v)) t) (memoryAfter (Planned k (marks v)) m) M)
   unfolding tablesAfter memoryAfter writtenTo δm processorOf
-  marks-leads v l M =
-      let D = may-be-done (accepted-doable (length m) b₃ refl (word-change (length m) b₃ (ptea w) (set-d v) l (ptea-aligned w))) in
+  marks-leads v l D M =
       plan-memory-same t m k (marks v) e h D M (δm (memoryOf m M) (ΣM.write (record { address = ptea w; value = set-d v; width = 4 })))
       (plan-processor (length m) (marks v) b₃ (core-long t (length m) e k h) (core-sound t (length m) e k h) (D .is-ready) (D .is-sound) tt (λ x. among x (walks b₃)) (λ x. refl))
       refl
@@ -306,7 +328,7 @@ module _ (t m : List ℕ) (e : sound t (length m) ≡ true) (k : ℕ) (h : k < c
 
   pub accessed-case : Case t m x₃ (byStep t m x₃)
   unfolding byStep tlbAccessed onAccessed planned misses entryAt view
-  accessed-case = go may-mark refl (leb (ptea w + 4) (length m)) refl
+  accessed-case = go may-mark refl (leb (ptea w + 4) (length m)) refl (accessed-plan b₃ m w)
     where
       v : ℕ
       v = bytesAt 4 m (ptea w)
@@ -315,17 +337,20 @@ module _ (t m : List ℕ) (e : sound t (length m) ≡ true) (k : ℕ) (h : k < c
           δx t m x₃ M ≡ (if g && d then report.next (marked M n) report.done else report.none)
       ifs g d M n p q r = outcome₃ M n r ∙ ap₂ (λ (i j : Bool). if i && j then report.next (marked M n) report.done else report.none) p q
 
-      by-entry : may-mark ≡ true → ptea w + 4 ≤ length m → (d : Bool) → pteP v ≡ d →
-          Case t m x₃ (Planned k (planned (walks b₃) (isFree b₃) (if d then tlb.Marks (ptea w) (set-d v) else tlb.Refused 6)))
-      by-entry p l true q =
-          Case.done refl (λ M y. entry-has t m e w l y)
-          (λ M. record { to = marked M v; is-next = ifs true true M v p q (memory-bytes m M 4 (ptea w) (ptea-low w) l); agrees = marks-leads v l M })
-      by-entry p l false q = Case.undefined refl (is-a-step x₃ refl) (λ M. ifs true false M v p q (memory-bytes m M 4 (ptea w) (ptea-low w) l))
+      plan₃ : Decision → Plan
+      plan₃ d = planned (walks b₃) (isFree b₃) d
 
-      go : (g : Bool) → may-mark ≡ g → (i : Bool) → leb (ptea w + 4) (length m) ≡ i →
-          Case t m x₃ (Planned k (planned (walks b₃) (isFree b₃) (if g then onAccessed w (if i then Word v else Missing) else tlb.Refused 6)))
-      go false p i l = Case.undefined refl (is-a-step x₃ refl) (λ M. ifs false (pteP (bytes 4 (memoryOf m M) (ptea w))) M (bytes 4 (memoryOf m M) (ptea w)) p refl refl)
-      go true p true l = by-entry p (leb-true (ptea w + 4) (length m) l) (pteP v) refl
-      go true p false l =
+      by-entry : may-mark ≡ true → ptea w + 4 ≤ length m → (d : Bool) → pteP v ≡ d → MayBeDone (length m) b₃ (plan₃ (if d then tlb.Marks (ptea w) (set-d v) else tlb.Refused 6)) →
+          Case t m x₃ (Planned k (plan₃ (if d then tlb.Marks (ptea w) (set-d v) else tlb.Refused 6)))
+      by-entry p l true q D =
+          Case.done refl (adds-none t m _ refl) (λ M y. entry-has t m e w l y)
+          (λ M. record { to = marked M v; is-next = ifs true true M v p q (memory-bytes m M 4 (ptea w) (ptea-low w) l); agrees = marks-leads v l D M })
+      by-entry p l false q D = Case.undefined refl (is-a-step x₃ refl) (λ M. ifs true false M v p q (memory-bytes m M 4 (ptea w) (ptea-low w) l))
+
+      go : (g : Bool) → may-mark ≡ g → (i : Bool) → leb (ptea w + 4) (length m) ≡ i → MayBeDone (length m) b₃ (plan₃ (if g then onAccessed w (if i then Word v else Missing) else tlb.Refused 6)) →
+          Case t m x₃ (Planned k (plan₃ (if g then onAccessed w (if i then Word v else Missing) else tlb.Refused 6)))
+      go false p i l D = Case.undefined refl (is-a-step x₃ refl) (λ M. ifs false (pteP (bytes 4 (memoryOf m M) (ptea w))) M (bytes 4 (memoryOf m M) (ptea w)) p refl refl)
+      go true p true l D = by-entry p (leb-true (ptea w + 4) (length m) l) (pteP v) refl D
+      go true p false l D =
           Case.no-byte refl (ptea w) (λ M. entry-misses t m e w l) ones (λ y. omega arith)
           (record { to = marked ones (2 ^ 32 - 1); answer = report.done; is-next = ifs true true ones (2 ^ 32 - 1) p refl (any-entry t m e w l) })
