@@ -3,7 +3,7 @@
 use crate::isa::{self, Op};
 use crate::machine::*;
 use crate::soundness::*;
-use crate::vectors::{Groups, Vector};
+use crate::vectors::Vector;
 use std::collections::BTreeMap;
 use std::fmt::Write;
 
@@ -129,18 +129,6 @@ pub const EVENTS: [&str; 101] = [
 
 pub const RUNS: [&str; 5] = ["end", "limit spent", "a step's refusal", "refused 4", "refused 11"];
 
-pub const GROUPS: [&str; 9] = [
-    "reach filled, nothing beyond",
-    "reach filled, page beyond",
-    "reach refused 4",
-    "reach refused 12",
-    "reach refused 13",
-    "apart yes",
-    "apart no",
-    "apart refused 4",
-    "apart refused 13",
-];
-
 #[derive(Default)]
 pub struct Counts {
     map: BTreeMap<(&'static str, String), u64>,
@@ -149,7 +137,7 @@ pub struct Counts {
 }
 
 impl Counts {
-    fn add(&mut self, section: &'static str, name: &str) {
+    pub(crate) fn add(&mut self, section: &'static str, name: &str) {
         *self.map.entry((section, name.to_string())).or_default() += 1;
     }
 
@@ -182,26 +170,6 @@ impl Counts {
             _ => RUNS[2],
         };
         self.add("run", name);
-    }
-
-    pub fn groups(&mut self, g: &Groups) {
-        for q in &g.questions {
-            let reach = match (q.reach, q.beyond) {
-                (0, 0) => GROUPS[0],
-                (0, _) => GROUPS[1],
-                (104, _) => GROUPS[2],
-                (112, _) => GROUPS[3],
-                _ => GROUPS[4],
-            };
-            let apart = match q.apart {
-                1 => GROUPS[5],
-                0 => GROUPS[6],
-                104 => GROUPS[7],
-                _ => GROUPS[8],
-            };
-            self.add("groups", reach);
-            self.add("groups", apart);
-        }
     }
 
     /// Counts one step, given the machine before and after it.
@@ -616,15 +584,6 @@ impl Counts {
         writeln!(o, "\n| run stops by | times |\n|---|---|").unwrap();
         for name in RUNS {
             writeln!(o, "| {name} | {} |", self.get("run", name)).unwrap();
-        }
-        out
-    }
-
-    /// The table for a groups file.
-    pub fn print_groups(&self) -> String {
-        let mut out = String::from("| groups | times |\n|---|---|\n");
-        for name in GROUPS {
-            writeln!(out, "| {name} | {} |", self.get("groups", name)).unwrap();
         }
         out
     }

@@ -8,12 +8,11 @@ use crate::counts::Counts;
 use crate::isa::{self, Op, Row, ROWS};
 use crate::machine::*;
 use crate::soundness::*;
-use crate::vectors::{answer_groups, answer_steps, Groups, Machine, Vector};
+use crate::vectors::{answer_steps, Machine, Vector};
 
 const LONG_VECTORS: usize = 1650;
 const CROSSED_VECTORS: usize = 2800;
 const DAMAGED_EACH: usize = 24;
-const GROUP_MACHINES: usize = 520;
 
 // ---------------------------------------------------------------- numbers
 
@@ -46,7 +45,7 @@ impl Rng {
         from[self.below(from.len() as u32) as usize]
     }
     /// An index, by weight.
-    fn weighted(&mut self, weights: &[u32]) -> usize {
+    pub fn weighted(&mut self, weights: &[u32]) -> usize {
         let mut x = self.below(weights.iter().sum());
         for (i, &w) in weights.iter().enumerate() {
             if x < w {
@@ -57,7 +56,7 @@ impl Rng {
         unreachable!()
     }
     /// A register value near an edge, or any.
-    fn value(&mut self) -> u32 {
+    pub fn value(&mut self) -> u32 {
         const EDGES: [u32; 20] = [
             0,
             1,
@@ -824,25 +823,13 @@ impl<'a> Builder<'a> {
     }
 }
 
-fn sound_machine(rng: &mut Rng, counts: &Counts) -> Machine {
+pub fn sound_machine(rng: &mut Rng, counts: &Counts) -> Machine {
     let cores = 1 + rng.weighted(&[30, 35, 20, 15]);
     let pages = 1 + rng.weighted(&[34, 30, 20, 6, 3, 2, 2, 3]) as u32;
     Builder::new(rng, counts, cores, pages).sound()
 }
 
 // ---------------------------------------------------------------- schedules
-
-/// The walks a core holds.
-fn walks_of(t: &[u32], b: usize) -> Vec<Walk> {
-    let mut all = Vec::new();
-    let mut n = t[b + WALKS];
-    while n != 0 {
-        let r = record(b, n);
-        all.push(Walk { first: t[r + 1], base: t[r + 2] });
-        n = t[r];
-    }
-    all
-}
 
 /// A walk for a step: held, nearly held, or any.
 fn some_walk(rng: &mut Rng, held: &[Walk]) -> Walk {
@@ -1381,7 +1368,7 @@ fn small(rng: &mut Rng, stores: u32, walks: u32) -> Machine {
 
 /// A machine whose first broken clause is the one asked for, or None if the
 /// attempt broke something else.
-fn damaged(rng: &mut Rng, clause: Clause) -> Option<Machine> {
+pub fn damaged(rng: &mut Rng, clause: Clause) -> Option<Machine> {
     use Clause::*;
     let (stores, walks) = match clause {
         NineStores => (8, rng.below(3)),
@@ -1518,40 +1505,9 @@ fn damaged(rng: &mut Rng, clause: Clause) -> Option<Machine> {
 
 // ---------------------------------------------------------------- groups
 
-/// The groups file: machines for reach and apart. Most have their cores in
-/// user mode with separate pages, so that both verdicts occur.
-pub fn groups(seed: u32) -> Vec<Groups> {
-    let mut rng = Rng::new(seed as u64 ^ 0x6072_0475);
-    let counts = Counts::default();
-    let mut all = Vec::new();
-    for n in 0..GROUP_MACHINES {
-        let machine = if n % 26 == 13 {
-            let clause = CLAUSES[n / 26 % 30].0;
-            match damaged(&mut rng, clause) {
-                Some(machine) => machine,
-                None => continue,
-            }
-        } else if n % 4 == 3 {
-            sound_machine(&mut rng, &counts)
-        } else {
-            group_machine(&mut rng)
-        };
-        let cores = machine.cores as u32;
-        let mut asked: Vec<(u32, u16)> = (1..1 << cores).map(|g| (g, machine.pages as u16)).collect();
-        let odd = [0, 1 << cores, 1 << 31, 0x10, 0xFFFF_FFFF, 1 | 1 << cores];
-        asked.push((rng.pick(&odd), machine.pages as u16));
-        if n % 6 == 0 {
-            let length = rng.pick(&[0, machine.pages as u16 - 1, machine.pages as u16 + 1]);
-            asked.push((rng.pick(&[0, 1, 3]), length));
-        }
-        all.push(answer_groups(machine, &asked));
-    }
-    all
-}
-
 /// Each core has a few pages of its own for tables and data; now and then one
 /// reaches over to another's, writes where it shouldn't, or leaves memory.
-fn group_machine(rng: &mut Rng) -> Machine {
+pub fn group_machine(rng: &mut Rng) -> Machine {
     let cores = 1 + rng.weighted(&[15, 40, 25, 20]);
     let pages = (2 * cores as u32 + rng.below(4)).min(8);
     let counts = Counts::default();

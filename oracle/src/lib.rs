@@ -5,13 +5,18 @@
 //! in comments are those of 000.
 
 pub mod counts;
+pub mod demand3;
 pub mod generate;
+pub mod groups;
+pub mod groups_counts;
 pub mod isa;
 pub mod machine;
 pub mod program;
 pub mod reach;
+pub mod sides;
 pub mod soundness;
 pub mod vectors;
+pub mod ways;
 
 pub use machine::{make, run, step, Answer, Run, Stop, Why};
 pub use reach::{apart, reach};

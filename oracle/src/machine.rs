@@ -388,6 +388,18 @@ pub fn held(t: &[u32], b: usize, w: Walk) -> bool {
     false
 }
 
+/// The walks a core holds.
+pub fn walks_of(t: &[u32], b: usize) -> Vec<Walk> {
+    let mut all = Vec::new();
+    let mut n = t[b + WALKS];
+    while n != 0 {
+        let r = record(b, n);
+        all.push(Walk { first: t[r + 1], base: t[r + 2] });
+        n = t[r];
+    }
+    all
+}
+
 /// May walk w be added? Refusals 9 and 10; a walk already held always may.
 fn room_for_walk(t: &[u32], b: usize, w: Walk) -> Result<(), Why> {
     if held(t, b, w) {

@@ -3,7 +3,8 @@
 use oracle::counts::Counts;
 use oracle::machine::step;
 use oracle::soundness::*;
-use oracle::{generate, isa, program, vectors};
+use oracle::ways::CONDITIONS;
+use oracle::{demand3, generate, groups, isa, program, vectors};
 use std::io::{Read, Write};
 
 const HELP: &str = "\
@@ -13,6 +14,8 @@ oracle groups SEED > FILE      make the groups file (reach and apart)
 oracle replay FILE [N]         each answer and what changed (vector N alone)
 oracle check FILE              replay a steps or groups file and compare
 oracle counts FILE             how often each thing occurs
+oracle demand3 SEED N [C [on]] demand 3 on N pairs of machines (condition C, 1 to 9,
+                               off; on: a changed table byte does not end a pair)
 ";
 
 fn main() {
@@ -21,11 +24,14 @@ fn main() {
     let result = match args[..] {
         ["simulate"] => simulate(),
         ["vectors", seed] => number(seed).and_then(|s| print(&vectors::write_steps(&generate::steps(s), s))),
-        ["groups", seed] => number(seed).and_then(|s| print(&vectors::write_groups(&generate::groups(s), s))),
+        ["groups", seed] => number(seed).and_then(|s| print(&vectors::write_groups(&groups::groups(s), s))),
         ["replay", file] => replay(file, None),
         ["replay", file, n] => number(n).and_then(|n| replay(file, Some(n as usize))),
         ["check", file] => check(file),
         ["counts", file] => counts(file),
+        ["demand3", seed, n] => number(seed).and_then(|s| demand(s, number(n)?, None, true)),
+        ["demand3", seed, n, off] => number(seed).and_then(|s| demand(s, number(n)?, Some(number(off)?), true)),
+        ["demand3", seed, n, off, "on"] => number(seed).and_then(|s| demand(s, number(n)?, Some(number(off)?), false)),
         _ => Err(HELP.to_string()),
     };
     if let Err(message) = result {
@@ -97,6 +103,24 @@ fn counts(file: &str) -> Outcome {
     }
     vectors::read_steps(&bytes)?.0.iter().for_each(|v| counts.vector(v));
     print(counts.print().as_bytes())
+}
+
+/// Fails if the claim breaks; with a condition off, that is for the reader.
+fn demand(seed: u32, pairs: u32, off: Option<u32>, tables: bool) -> Outcome {
+    let off = match off {
+        None => None,
+        Some(n) => {
+            let (condition, text) = *CONDITIONS.get((n as usize).wrapping_sub(1)).ok_or("conditions are 1 to 9")?;
+            println!("off: {text}");
+            Some(condition)
+        }
+    };
+    let figures = demand3::trial(seed, pairs as u64, &demand3::Terms { off, tables });
+    print(figures.print().as_bytes())?;
+    if off.is_none() && figures.broken() != 0 {
+        return Err("it breaks".into());
+    }
+    Ok(())
 }
 
 fn replay(file: &str, only: Option<usize>) -> Outcome {

@@ -1,11 +1,15 @@
 //! Reach and apart (01, "Operations").
 
-use crate::machine::{pte_base, pte_present, pte_rights, word, WRITE};
+use crate::machine::{pte_base, pte_present, pte_rights, WRITE};
 use crate::soundness::*;
 
 pub const DATA: u8 = 1;
 pub const TABLE: u8 = 2;
 pub const WRITABLE: u8 = 4;
+
+// Which level a table page was met at, while the map is being filled.
+const FIRST: u8 = 8;
+const SECOND: u8 = 16;
 
 /// Marks pages in the map, and says whether one lies beyond it.
 struct Marks<'a> {
@@ -43,7 +47,9 @@ fn is_group(t: &[u32], group: u32) -> bool {
 }
 
 /// Reach for sound tables and cores that are there; an empty group reaches
-/// nothing.
+/// nothing. First what the cores name themselves, then the entries of the
+/// first-level tables, then those of the second-level ones: each table page
+/// is read once a level, however often it is named.
 fn fill(t: &[u32], m: &[u8], group: u32, map: &mut [u8]) -> bool {
     map.fill(0);
     let mut marks = Marks { map, beyond: false };
@@ -52,14 +58,14 @@ fn fill(t: &[u32], m: &[u8], group: u32, map: &mut [u8]) -> bool {
             continue;
         }
         let b = block(k);
-        first_level(m, t[b + PTO] >> 12, &mut marks);
+        marks.mark(t[b + PTO] >> 12, TABLE | FIRST);
         let mut n = t[b + WALKS];
         while n != 0 {
             let r = record(b, n);
             let (first, base) = (t[r + 1], t[r + 2]);
             match first >> 3 & 3 {
-                2 => first_level(m, base, &mut marks),
-                1 => second_level(m, base, &mut marks),
+                2 => marks.mark(base, TABLE | FIRST),
+                1 => marks.mark(base, TABLE | SECOND),
                 _ => marks.mark(base, data(first & 7)),
             }
             n = t[r];
@@ -71,6 +77,17 @@ fn fill(t: &[u32], m: &[u8], group: u32, map: &mut [u8]) -> bool {
             n = t[r];
         }
     }
+    for page in 0..marks.map.len() {
+        if marks.map[page] & FIRST != 0 {
+            present(m, page).for_each(|pte| marks.mark(pte_base(pte), TABLE | SECOND));
+        }
+    }
+    for page in 0..marks.map.len() {
+        if marks.map[page] & SECOND != 0 {
+            present(m, page).for_each(|pte| marks.mark(pte_base(pte), data(pte_rights(pte))));
+        }
+    }
+    marks.map.iter_mut().for_each(|byte| *byte &= DATA | TABLE | WRITABLE);
     marks.beyond
 }
 
@@ -83,23 +100,10 @@ fn data(rights: u32) -> u8 {
     }
 }
 
-/// The present entries of a table page; none if it is beyond memory.
-fn entries(m: &[u8], page: u32) -> impl Iterator<Item = u32> + '_ {
-    (0..1024).filter_map(move |i| word(m, page << 12 | i << 2)).filter(|&pte| pte_present(pte))
-}
-
-fn first_level(m: &[u8], page: u32, marks: &mut Marks) {
-    marks.mark(page, TABLE);
-    for pte in entries(m, page) {
-        second_level(m, pte_base(pte), marks);
-    }
-}
-
-fn second_level(m: &[u8], page: u32, marks: &mut Marks) {
-    marks.mark(page, TABLE);
-    for pte in entries(m, page) {
-        marks.mark(pte_base(pte), data(pte_rights(pte)));
-    }
+/// The present entries of a table page in memory.
+fn present(m: &[u8], page: usize) -> impl Iterator<Item = u32> + '_ {
+    let words = m[page * PAGE..][..PAGE].chunks_exact(4);
+    words.map(|c| u32::from_le_bytes([c[0], c[1], c[2], c[3]])).filter(|&pte| pte_present(pte))
 }
 
 /// Is the group apart from the other running cores? Err is 4 or 13.

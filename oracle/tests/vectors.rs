@@ -4,7 +4,7 @@
 use oracle::counts::Counts;
 use oracle::machine::step;
 use oracle::soundness::*;
-use oracle::{generate, isa, run, sound, vectors, Answer, Stop};
+use oracle::{generate, groups, isa, run, sound, vectors, Answer, Stop};
 
 const STEPS: &[u8] = include_bytes!("../vectors/steps.bin");
 const GROUPS: &[u8] = include_bytes!("../vectors/groups.bin");
@@ -15,7 +15,7 @@ fn the_seed_makes_the_files() {
     let (_, seed) = vectors::read_steps(STEPS).unwrap();
     assert!(vectors::write_steps(&generate::steps(seed), seed) == STEPS, "steps.bin");
     let (_, seed) = vectors::read_groups(GROUPS).unwrap();
-    assert!(vectors::write_groups(&generate::groups(seed), seed) == GROUPS, "groups.bin");
+    assert!(vectors::write_groups(&groups::groups(seed), seed) == GROUPS, "groups.bin");
 }
 
 /// Every answer and check sum; soundness is kept; a refused step changes the
@@ -80,6 +80,7 @@ fn runs_are_single_steps() {
 #[test]
 fn groups_are_as_the_file_says() {
     for g in vectors::read_groups(GROUPS).unwrap().0 {
+        assert!(g.questions.len() <= 40 && g.questions.iter().all(|q| q.map_length <= 9));
         let asked: Vec<(u32, u16)> = g.questions.iter().map(|q| (q.group, q.map_length)).collect();
         assert_eq!(vectors::answer_groups(g.machine.clone(), &asked), g);
     }
@@ -100,5 +101,31 @@ fn counts() {
     assert!(README.contains(&counts.print()), "counts of steps.bin in README.md");
     let mut counts = Counts::default();
     vectors::read_groups(GROUPS).unwrap().0.iter().for_each(|g| counts.groups(g));
+    for (section, name) in Counts::expected_groups() {
+        let times = counts.get(section, &name);
+        assert!(times >= 20, "{section}: {name} occurs {times} times");
+    }
+    for (_, text) in CLAUSES {
+        assert!(counts.get("groups damage", text) >= 2, "{text}");
+    }
     assert!(README.contains(&counts.print_groups()), "counts of groups.bin in README.md");
+}
+
+/// Reach and apart agree with the plain listing of ways and conditions.
+#[test]
+fn reach_and_apart_are_as_listed() {
+    use oracle::ways::{map_byte, sides, ways};
+    let vectors = vectors::read_steps(STEPS).unwrap().0.into_iter().step_by(7).map(|v| v.machine);
+    let groups = vectors::read_groups(GROUPS).unwrap().0.into_iter().map(|g| g.machine);
+    for machine in vectors.chain(groups).filter(|machine| machine.damage == 0) {
+        let (t, m) = (&machine.tables, &machine.memory);
+        for group in 1..1 << machine.cores {
+            let all = ways(t, m, group);
+            let mut map = vec![0xEE; machine.pages as usize];
+            let beyond = oracle::reach(t, m, group, &mut map);
+            assert_eq!(beyond, Ok(all.iter().any(|r| r.page >= machine.pages as u32)));
+            assert!((0..).zip(&map).all(|(page, byte)| map_byte(&all, page) == *byte));
+            assert_eq!(oracle::apart(t, m, group), Ok(sides(t, m, group).fails.is_empty()));
+        }
+    }
 }

@@ -40,7 +40,7 @@ use lib.Seq.{getD-set-same, getD-set-other}
 use Rattle.reach.specs.Lists.{range, has, select}
 use Rattle.reach.specs.Reach.{Pages, reached, isGroup, reach, firstPages, secondPages, dataPages, writablePages, named, namedBy, anyRights, grantsWrite, over, basesOf, storePages, inMemory, mapByte, mapFor, members}
 use Rattle.separation.specs.declared.Verdict.the-variants.{Yes}
-use Rattle.separation.specs.Apart.{disjoint, apart, apartOn, rest, running}
+use Rattle.separation.specs.Apart.{disjoint, apart, pagesApart, apartOn, rest, running}
 use Rattle.separation.specs.Separation.{Machine, Given, start, next, called, isInterrupt, admitted, isOwn, Alike, Separated, reachable, seen}
 use Rattle.reach.proofs.Lists.{tested, In, map-same, in-cases, in-none}
 use Rattle.separation.proofs.Memory.{page, Same, bytes-same}
@@ -155,7 +155,7 @@ unfolding members select range little
 little-group = refl
 
 apart-big : apart 1 big (replicate 16384 0) ≡ true
-unfolding apart inMemory all disjoint has
+unfolding apart pagesApart inMemory all disjoint has
 apart-big =
     rw (big-rest, big-group, reach-is big 16384 0 0 2 big-0 (omega arith) (omega arith), reach-is big 16384 1 1 3 big-1 (omega arith) (omega arith), big-0, big-1)
     (unfold big blockOf chained in refl)
@@ -165,7 +165,7 @@ unfolding reach firstPages secondPages dataPages writablePages flatMap
 reach-none t m = refl
 
 apart-little : apart 1 little (replicate 12288 0) ≡ true
-unfolding apart inMemory all disjoint has
+unfolding apart pagesApart inMemory all disjoint has
 apart-little =
     rw (little-rest, little-group, reach-is little 12288 0 0 2 little-0 (omega arith) (omega arith), reach-none little (replicate 12288 0), little-0)
     (unfold little blockOf chained in refl)

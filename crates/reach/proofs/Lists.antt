@@ -3,10 +3,10 @@
 use mathlib.Core.Path.{_≡_, refl, sym, ap, ap₂, subst, _∙_}
 use mathlib.Core.Logic.{_⊎_, inl, inr, ⊎-elim, _≢_}
 use mathlib.Core.Bool.{Bool, true, false, _&&_, _||_, not, false≢true}
-use mathlib.Core.List.{List, [], _∷_, _++_, map, flatMap}
+use mathlib.Core.List.{List, [], _∷_, _++_, map, flatMap, append-assoc, append-nil}
 use Prim.Native.Nat.{ℕ, zero, suc, _<_, _≤_}
 use native.Mathlib.Omega.{arith}
-use native.Mathlib.Decide.{ℕ-discrete}
+use native.Mathlib.Decide.{ℕ-discrete, decLt}
 use lib.Dec.{eqb}
 use borrow.Author.Tests.{eqb-true, eq-eqb, not-true}
 use Rattle.word.specs.Word.{if_then_else_}
@@ -199,3 +199,97 @@ disjoint-in l r p d h g = clash (has p r) g (not-true _ (all-in (λ (x : ℕ). n
 pub each-append : {A : Type 0} (P : A → Type 0) (l r : List A) → Each P l → Each P r → Each P (l ++ r)
 each-append P [] r h g = g
 each-append P (x ∷ l) r h g = (h .0, each-append P l r (h .1) g)
+
+-- ---- laws as equations
+
+pub or-assoc : (a b c : Bool) → (a || b) || c ≡ a || (b || c)
+or-assoc true b c = refl
+or-assoc false b c = refl
+
+-- two truth values that follow from each other
+pub both-ways : (a b : Bool) → (a ≡ true → b ≡ true) → (b ≡ true → a ≡ true) → a ≡ b
+both-ways true b f g = sym (f refl)
+both-ways false true f g = g refl
+both-ways false false f g = refl
+
+pub flatMap-append : {A B : Type 0} (f : A → List B) (l r : List A) → flatMap f (l ++ r) ≡ flatMap f l ++ flatMap f r
+unfolding flatMap
+flatMap-append f [] r = refl
+flatMap-append f (x ∷ l) r = ap (λ (k : List _). f x ++ k) (flatMap-append f l r) ∙ sym (append-assoc (f x) (flatMap f l) (flatMap f r))
+
+pub flatMap-one : {A B : Type 0} (f : A → List B) (x : A) → flatMap f (x ∷ []) ≡ f x
+unfolding flatMap
+flatMap-one f x = append-nil (f x)
+
+pub has-append : (p : ℕ) (l r : List ℕ) → has p (l ++ r) ≡ has p l || has p r
+unfolding has
+has-append p [] r = refl
+has-append p (x ∷ l) r = ap (λ (t : Bool). eqb p x || t) (has-append p l r) ∙ sym (or-assoc (eqb p x) (has p l) (has p r))
+
+pub flatMap-none : {A B : Type 0} (f : A → List B) (l : List A) → ((x : A) → f x ≡ []) → flatMap f l ≡ []
+unfolding flatMap
+flatMap-none f [] h = refl
+flatMap-none f (x ∷ l) h = rw (h x) (flatMap-none f l h)
+
+pub each-flatMap : {A B : Type 0} (P : B → Type 0) (f : A → List B) (l : List A) → ((x : A) → Each P (f x)) → Each P (flatMap f l)
+unfolding flatMap
+each-flatMap P f [] h = tt
+each-flatMap P f (x ∷ l) h = each-append P (f x) (flatMap f l) (h x) (each-flatMap P f l h)
+
+pub all-append : {A : Type 0} (t : A → Bool) (l r : List A) → all t (l ++ r) ≡ all t l && all t r
+unfolding all
+all-append t [] r = refl
+all-append t (x ∷ l) r = ap (λ (b : Bool). t x && b) (all-append t l r) ∙ and-assoc (t x) (all t l) (all t r)
+  where
+    and-assoc : (a b c : Bool) → a && (b && c) ≡ (a && b) && c
+    and-assoc true b c = refl
+    and-assoc false b c = refl
+
+pub in-all : (t : ℕ → Bool) (l : List ℕ) → ((p : ℕ) → In p l → t p ≡ true) → all t l ≡ true
+unfolding all
+in-all t [] h = refl
+in-all t (x ∷ l) h = and-both (t x) (all t l) (h x (in-here x l)) (in-all t l (λ p q. h p (in-there p x l q)))
+
+-- a test of every element sees a list as a set
+pub all-same : (t : ℕ → Bool) (l r : List ℕ) → ((p : ℕ) → has p l ≡ has p r) → all t l ≡ all t r
+all-same t l r h =
+    both-ways (all t l) (all t r) (λ e. in-all t r (λ p q. all-in t l p e (h p ∙ q))) (λ e. in-all t l (λ p q. all-in t r p e (sym (h p) ∙ q)))
+
+-- an element of a flatMap is one of some part
+pub flatMap-in : {A : Type 0} (f : ℕ → List ℕ) (p : ℕ) (l : List ℕ) → In p (flatMap f l) → ((q : ℕ) → In q l → In p (f q) → A) → A
+unfolding flatMap
+flatMap-in f p [] h k = in-none p h
+flatMap-in f p (x ∷ l) h k = ⊎-elim (λ e. k x (in-here x l) e) (λ e. flatMap-in f p l e (λ q i j. k q (in-there q x l i) j)) (in-append p (f x) (flatMap f l) h)
+
+pub flatMap-select : {A B : Type 0} (f : A → List B) (t : A → Bool) (l : List A) → flatMap (λ (x : A). if t x then f x else []) l ≡ flatMap f (select t l)
+unfolding flatMap select
+flatMap-select {A} {B} f t [] = refl
+flatMap-select {A} {B} f t (x ∷ l) = go (t x) (flatMap-select f t l)
+  where
+    go : (b : Bool) → flatMap (λ (y : A). if t y then f y else []) l ≡ flatMap f (select t l) → (if b then f x else []) ++ flatMap (λ (y : A). if t y then f y else []) l ≡ flatMap f (if b then x ∷ select t l else select t l)
+    go true e = ap (λ (k : List B). f x ++ k) e
+    go false e = e
+
+pub flatMap-map : {A B C : Type 0} (f : B → List C) (g : A → B) (l : List A) → flatMap (λ (x : A). f (g x)) l ≡ flatMap f (map g l)
+unfolding flatMap
+flatMap-map {A} {B} {C} f g [] = refl
+flatMap-map {A} {B} {C} f g (x ∷ l) = ap (λ (k : List C). f (g x) ++ k) (flatMap-map f g l)
+
+pub flatMap-each : {A B : Type 0} (f : A → B) (l : List A) → flatMap (λ (x : A). f x ∷ []) l ≡ map f l
+unfolding flatMap
+flatMap-each {A} {B} f [] = refl
+flatMap-each {A} {B} f (x ∷ l) = ap (λ (k : List B). f x ∷ k) (flatMap-each f l)
+
+pub flatMap-ext : {A B : Type 0} (f g : A → List B) (l : List A) → ((x : A) → f x ≡ g x) → flatMap f l ≡ flatMap g l
+unfolding flatMap
+flatMap-ext f g [] h = refl
+flatMap-ext f g (x ∷ l) h = ap₂ _++_ (h x) (flatMap-ext f g l h)
+
+-- the elements below n in order: the parts of the others are empty
+pub flatMap-below : (f : ℕ → List ℕ) (l : List ℕ) (n y : ℕ) → ((x : ℕ) → In x l → n ≤ x → f x ≡ []) → has y (flatMap f (select (λ (x : ℕ). has x l) (range n))) ≡ has y (flatMap f l)
+flatMap-below f l n y h =
+    both-ways _ _
+    (λ e. flatMap-in f y (select (λ (x : ℕ). has x l) (range n)) e (λ q i j. in-flatMap f q y l (select-in (λ (x : ℕ). has x l) (range n) q i .1) j))
+    (λ e. flatMap-in f y l e (λ q i j. decided (decLt q n)
+    (λ b. in-flatMap f q y (select (λ (x : ℕ). has x l) (range n)) (in-select (λ (x : ℕ). has x l) (range n) q (in-range n q b) i) j)
+    (λ b. in-none y (subst (In y) (h q i (omega arith)) j))))

@@ -22,7 +22,7 @@ use Rattle.apic.proofs.Bits.{bit-same, bit-other}
 use Rattle.reach.specs.Lists.{range, has, select}
 use Rattle.reach.specs.Reach.{Pages, members, tablePages, reached, inMemory, mapByte}
 use Rattle.reach.proofs.Lists.{tested, decided, clash, and-left, and-right, and-both, or-cases, In, in-left, in-right, in-append, in-range, range-in, all-in, select-same, select-append}
-use Rattle.separation.specs.Apart.{running, rest, runsAsUser, disjoint, closed}
+use Rattle.separation.specs.Apart.{running, rest, runsAsUser, disjoint, closed, pagesApart}
 use Rattle.separation.specs.Sides.{passes, both, pageApart}
 use Rattle.separation.proofs.Mapped.{marked-is, has-append, byte-table, byte-writable, reached-low}
 
@@ -229,3 +229,27 @@ module _ (n : ℕ) (S T : Pages) (e : inMemory S n ≡ true) (f : inMemory T n �
       regroup : (a b c : Bool) → ((a && b) && c) ≡ (a && (b && c))
       regroup true b c = refl
       regroup false b c = refl
+
+-- two maps of n pages decide on the pages of two sides that reach none beyond memory
+pub pages-decide : (n : ℕ) (S T : Pages) (l r : List ℕ) → inMemory S n ≡ true → inMemory T n ≡ true
+    → ((i : ℕ) → i < n → getD l i 0 ≡ mapByte S i) → ((i : ℕ) → i < n → getD r i 0 ≡ mapByte T i)
+    → all (λ i. pageApart (getD l i 0) (getD r i 0)) (range n) ≡ pagesApart n S T
+unfolding pagesApart
+pages-decide n S T l r e f p q =
+    all-same (λ i. pageApart (getD l i 0) (getD r i 0)) (λ i. pageApart (mapByte S i) (mapByte T i)) (range n)
+    (λ i h. ap₂ pageApart (p i (range-in n i h)) (q i (range-in n i h)))
+    ∙ sym (pages-are n S T e f)
+    ∙ sym (ap₂ (λ (a b : Bool). (a && b) && ((closed S && closed T) && disjoint (reached S) (T .writables ++ tablePages T))) e f)
+
+-- where one side reaches a page beyond memory they are not apart
+pub group-beyond : (n : ℕ) (S T : Pages) → inMemory S n ≡ false → pagesApart n S T ≡ false
+unfolding pagesApart
+group-beyond n S T e = ap (λ (a : Bool). (a && inMemory T n) && ((closed S && closed T) && disjoint (reached S) (T .writables ++ tablePages T))) e
+
+pub rest-beyond : (n : ℕ) (S T : Pages) → inMemory T n ≡ false → pagesApart n S T ≡ false
+unfolding pagesApart
+rest-beyond n S T e = ap (λ (a : Bool). (inMemory S n && a) && ((closed S && closed T) && disjoint (reached S) (T .writables ++ tablePages T))) e ∙ none (inMemory S n)
+  where
+    none : (a : Bool) → (a && false) && ((closed S && closed T) && disjoint (reached S) (T .writables ++ tablePages T)) ≡ false
+    none true = refl
+    none false = refl

@@ -20,7 +20,7 @@ use Rattle.tlb.specs.Steps.{userMode, runs}
 use Rattle.reach.specs.Lists.{range, has, select}
 use Rattle.reach.specs.Reach.{Pages, tablePages, reached, reach, inMemory, members, isGroup}
 use Rattle.separation.specs.declared.Verdict.the-variants.{Yes, No, Refused}
-use Rattle.separation.specs.Apart.{apart, apartOn, running, rest, runsAsUser, disjoint, closed}
+use Rattle.separation.specs.Apart.{apart, pagesApart, apartOn, running, rest, runsAsUser, disjoint, closed}
 use Rattle.separation.specs.Separation.{Machine, Given, verdict, Point, start, group, others, tableBit, writableBit, either, Framed}
 use Rattle.reach.proofs.Lists.{clash, and-left, and-right, or-cases, or-none-left, or-none-right, In, in-left, in-right, in-append, in-range, range-in, in-select, select-in, disjoint-in, all-in}
 use Rattle.separation.proofs.Memory.{page, Moved, still, free, marked, kept-refl}
@@ -58,7 +58,7 @@ module _ (g : ℕ) (M : Machine) (I : Given M) (e : verdict g M ≡ Yes) where
     pub cross : disjoint (reached G) (R .writables ++ tablePages R) ≡ true
 
   pub conditions : Conditions
-  unfolding apart
+  unfolding apart pagesApart
   conditions =
       let e₀ = answered .2 in
       let e₁ = and-right (all (runsAsUser (M .tables)) (group g M ++ others g M)) _ e₀ in

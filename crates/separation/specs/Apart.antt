@@ -35,18 +35,17 @@ disjoint l r = all (λ x. not (has x r)) l
 abbrev pub closed : Pages → Bool
 closed S = disjoint (S .writables) (tablePages S)
 
--- For a group g: every core of both sides is running in user mode, neither side reaches a page beyond memory, no page is both writable
--- and table for one side, and no page reached by the group is writable or table for the rest.
+-- the group's pages S and the rest's T, beside a memory of n pages: neither side reaches a page beyond memory, no page is both writable and
+-- table for one side, and no page reached by the group is writable or table for the rest
+unfoldable pub pagesApart : ℕ → Pages → Pages → Bool
+pagesApart n S T =
+    (inMemory S n && inMemory T n) && ((closed S && closed T) && disjoint (reached S) (T .writables ++ tablePages T))
+
+-- every core of both sides is running in user mode, and their pages are so
 unfoldable pub apart : ℕ → List ℕ → List ℕ → Bool
 apart g t m =
-    let G : List ℕ = members g (coresOf t) in
-    let R : List ℕ = rest g t in
-    let S : Pages = reach G t m in
-    let T : Pages = reach R t m in
-    all (runsAsUser t) (G ++ R)
-    && ((inMemory S (pagesOf t) && inMemory T (pagesOf t))
-    && ((closed S && closed T)
-    && disjoint (reached S) (T .writables ++ tablePages T)))
+    all (runsAsUser t) (members g (coresOf t) ++ rest g t)
+    && pagesApart (pagesOf t) (reach (members g (coresOf t)) t m) (reach (rest g t) t m)
 
 -- ---- the operation
 

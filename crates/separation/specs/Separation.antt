@@ -28,6 +28,9 @@ pub record Machine : Type 0 where
   pub tables : List ℕ
   pub memory : List ℕ
 
+abbrev pub machineOf : List ℕ → List ℕ → Machine
+machineOf t m = record { tables = t; memory = m }
+
 pub record Given (M : Machine) : Type 0 where
   pub words : (i : ℕ) → getD (M .tables) i 0 < 2 ^ 32
   pub bytes : (i : ℕ) → getD (M .memory) i 0 < 2 ^ 8

@@ -1,0 +1,121 @@
+// Sets of pages as marks in one array of bytes, and the table pages that are read into it (specs/Marks.antt).
+ghost use mathlib.Core.Path.{_≡_};
+ghost use mathlib.Core.List.{[], _∷_};
+ghost use mathlib.Core.List as lists;
+ghost use Rattle.tlb.specs.declared.Entry.{Entry};
+ghost use Prim.Native.Nat.{_+_, _*_, _<_, _≤_};
+ghost use lib.ListN.{length};
+ghost use Rattle.word.specs.Word.{flag};
+ghost use Rattle.reach.specs.Lists.{range};
+ghost use Rattle.reach.specs.Marks as x;
+
+// Marks page p, with the write right where w is 1, in a set; whether it is beyond memory.
+pub(crate) fn mark(s: &mut [u8], pages: u32, kind: u32, p: u32, w: u32) -> bool
+    requires { ⌜ (length (now s) ≡ 24576) × (pages ≤ 4096) × (kind < 3) × (w < 2) ⌝ }
+    ensures { λ r. ⌜ x.Marked pages (now (s .entry)) (now (s .exit)) r (x.name kind p w ∷ []) ⌝ }
+{
+    if p < pages {
+        let at = (8192 * kind + 4096 * w + p) as usize;
+        s[at] = 1;
+        return false;
+    }
+    true
+}
+
+// Marks the page that an entry names, if it is present.
+fn mark_entry(s: &mut [u8], pages: u32, kind: u32, e: u32) -> bool
+    requires { ⌜ (length (now s) ≡ 24576) × (pages ≤ 4096) × (kind < 3) ⌝ }
+    ensures { λ r. ⌜ x.Marked pages (now (s .entry)) (now (s .exit)) r (x.entryName kind (Entry.Word e)) ⌝ }
+{
+    if tlb::present(e) {
+        return mark(s, pages, kind, e / 0x1000, e / 0x100 % 2);
+    }
+    false
+}
+
+// Marks the pages that the entries of the table in page p name.
+fn scan(s: &mut [u8], m: &[u8], pages: u32, kind: u32, p: u32) -> bool
+    requires { ⌜ (length (now s) ≡ 24576) × (pages ≤ 4096) × (kind < 3) ⌝ }
+    requires { ⌜ (length (now m) ≡ 4096 * pages) × (p < pages) ⌝ }
+    ensures { λ r. ⌜ x.Marked pages (now (s .entry)) (now (s .exit)) r (x.entryNames kind (now (m .entry)) p) ⌝ }
+{
+    let start = 4096 * (p as usize);
+    let mut beyond = false;
+    let mut i: usize = 0;
+    while i < 1024 {
+        let e = word::read_word(m, start + 4 * i);
+        let stray = mark_entry(s, pages, kind, e);
+        beyond = beyond | stray;
+        i += 1;
+    }
+    beyond
+}
+
+// Whether page p is in a set.
+fn is_marked(s: &[u8], kind: u32, p: u32) -> bool
+    requires { ⌜ (length (now s) ≡ 24576) × (kind < 3) × (p < 4096) ⌝ }
+    ensures { λ r. ⌜ r ≡ x.isMarked (now (s .entry)) kind p ⌝ }
+{
+    let at = (8192 * kind + p) as usize;
+    let written = (8192 * kind + 4096 + p) as usize;
+    (s[at] == 1) | (s[written] == 1)
+}
+
+// Marks what the table in page p names, if it is in a set, in the next set.
+fn scan_marked(s: &mut [u8], m: &[u8], pages: u32, kind: u32, p: u32) -> bool
+    requires { ⌜ (length (now s) ≡ 24576) × (pages ≤ 4096) × (kind < 2) ⌝ }
+    requires { ⌜ (length (now m) ≡ 4096 * pages) × (p < pages) ⌝ }
+    ensures { λ r. ⌜ x.Marked pages (now (s .entry)) (now (s .exit)) r (x.markedNames kind (now (m .entry)) (now (s .entry)) p) ⌝ }
+{
+    if is_marked(s, kind, p) {
+        return scan(s, m, pages, kind + 1, p);
+    }
+    false
+}
+
+// Marks what the tables in a set name, in the next set.
+pub(crate) fn pass(s: &mut [u8], m: &[u8], pages: u32, kind: u32) -> bool
+    requires { ⌜ (length (now s) ≡ 24576) × (pages ≤ 4096) × (kind < 2) ⌝ }
+    requires { ⌜ length (now m) ≡ 4096 * pages ⌝ }
+    ensures { λ r. ⌜ x.Marked pages (now (s .entry)) (now (s .exit)) r (x.passNames pages kind (now (m .entry)) (now (s .entry))) ⌝ }
+{
+    let mut beyond = false;
+    let mut p: u32 = 0;
+    while p < pages {
+        let stray = scan_marked(s, m, pages, kind, p);
+        beyond = beyond | stray;
+        p += 1;
+    }
+    beyond
+}
+
+// A truth value as a bit.
+fn bit(b: bool) -> u8
+    ensures { λ r. ⌜ (r ≡ flag b) × (r < 2) ⌝ }
+{
+    if b { 1 } else { 0 }
+}
+
+// The map's byte of page p.
+fn map_byte(s: &[u8], p: u32) -> u8
+    requires { ⌜ (length (now s) ≡ 24576) × (p < 4096) ⌝ }
+    ensures { λ r. ⌜ r ≡ x.byteOf (now (s .entry)) p ⌝ }
+{
+    let at = (20480 + p) as usize;
+    let table = is_marked(s, 0, p) | is_marked(s, 1, p);
+    let data = is_marked(s, 2, p);
+    bit(table) * 2 + bit(data) + bit(s[at] == 1) * 4
+}
+
+// Writes the map.
+pub(crate) fn write_map(map: &mut [u8], s: &[u8], pages: u32)
+    requires { ⌜ (length (now s) ≡ 24576) × (pages ≤ 4096) × (length (now map) ≡ pages) ⌝ }
+    ensures { λ _. ⌜ now (map .exit) ≡ lists.map (x.byteOf (now (s .entry))) (range pages) ⌝ }
+{
+    let mut p: u32 = 0;
+    while p < pages {
+        let i = p as usize;
+        map[i] = map_byte(s, p);
+        p += 1;
+    }
+}
