@@ -34,8 +34,8 @@ use Rattle.cores.specs.declared.Plan.{Plan}
 use Rattle.cores.specs.Plans.{done}
 use Rattle.cores.specs.Buffer.{bufferStep, onOldest, leavesTo}
 use Rattle.cores.specs.Commit.{writtenTo, memoryAfter}
-use Rattle.separation.proofs.Plans.{step-law}
-use Rattle.separation.proofs.Plans as plans
+use Rattle.machine.proofs.Locality.{step-law}
+use Rattle.machine.proofs.Locality as plans
 use lib.Seq.{getD-set-same, getD-set-other}
 use Rattle.reach.specs.Lists.{range, has, select}
 use Rattle.reach.specs.Reach.{Pages, reached, isGroup, reach, firstPages, secondPages, dataPages, writablePages, named, namedBy, anyRights, grantsWrite, over, basesOf, storePages, inMemory, mapByte, mapFor, members}

@@ -1,10 +1,23 @@
 -- What is claimed of the machine, in one place; proofs/Claims proves it.
--- The operations that the claims speak of are those whose contracts the code is proved to meet: step (machine, specs/Step), reach
--- (reach, specs/Reach: `reachOn`) and apart (separation, specs/Apart: `apartOn`).
+-- The operations that the claims speak of are those whose contracts the code is proved to meet, each an equality with a definition: make (tables,
+-- specs/Make: `madeOr`), step and run (machine, specs/Step: `step`, specs/Run: `run`, which is single steps one after the other), reach (reach,
+-- specs/Reach: `reachOn`) and apart (separation, specs/Apart: `apartOn`).
 -- Assumes nothing.
+use Rattle.report.specs.Demands.{Demand1, Demand2, Unhindered, Resets}
 use Rattle.separation.specs.Separation.{Demand3}
 
 pub record Claims : Type 0 where
+  -- For any words, bytes and step whatever: the answer is done, an interrupt of level 0 to 7 or a refusal 4 to 10, and 4 exactly where the tables are not
+  -- sound; a refusal leaves every memory byte and every word but the refusal count, which stays with 4 and else rises by one up to its largest; sound
+  -- tables stay sound.
+  pub demand1 : Demand1
+  -- For sound tables and any bytes beyond memory: an accepted step does what the report's transition function does with it, and no more; every refusal
+  -- has its ground.
+  pub demand2 : Demand2
+  -- So a step that the function allows is accepted, or refused by a limit of ours, 7 to 10.
+  pub unhindered : Unhindered
+  -- A machine as made is in a configuration that the report allows after reset.
+  pub reset : Resets
   -- Two machines with the verdict "apart" for a group, alike in the group's blocks and reachable pages: for any two lists of single steps in
   -- which the group takes the same steps, the group gets the same answers and sees the same state after each of its steps, whatever the others hold and do.
   pub demand3 : Demand3

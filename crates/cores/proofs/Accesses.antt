@@ -30,10 +30,10 @@ use Rattle.cores.specs.Core.{isAccess, suppressed}
 -- ---- a misaligned access is interrupted, and not by a continue type
 
 -- a test of both truth values
-abbrev allB : (Bool → Bool) → Bool
+abbrev pub allB : (Bool → Bool) → Bool
 allB p = p true && p false
 
-bools : (p : Bool → Bool) → T (allB p) → (b : Bool) → T (p b)
+pub bools : (p : Bool → Bool) → T (allB p) → (b : Bool) → T (p b)
 bools p t true = and-left (p true) (p false) t
 bools p t false = and-right (p true) (p false) t
 
@@ -89,7 +89,7 @@ cas-or : (i : Instruction) → (cas i || eqb (d i) 4) ≡ eqb (d i) 4
 unfolding d cas
 cas-or = agree (λ i. cas i || eqb (d i) 4) (λ i. eqb (d i) 4) tt
 
-third : (l s c : Bool) → (l || (s || c)) ≡ true → l ≡ false → s ≡ false → c ≡ true
+pub third : (l s c : Bool) → (l || (s || c)) ≡ true → l ≡ false → s ≡ false → c ≡ true
 third false false c a p q = a
 third false true c a p q = absurd (true-false q)
 third true s c a p q = absurd (true-false p)
@@ -110,7 +110,7 @@ mal-width : (i : Instruction) (x : ℕ) → mal i x ≡ ((eqb (d i) 4 && not (eq
 unfolding mal
 mal-width i x = mal-rows (not (eqb (x % 2 ^ 2) 0)) (not (eqb (x % 2) 0)) i
 
-not-not : (b : Bool) → not b ≡ false → b ≡ true
+pub not-not : (b : Bool) → not b ≡ false → b ≡ true
 not-not true e = refl
 not-not false e = absurd (true-false e)
 

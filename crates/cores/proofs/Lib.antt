@@ -1,4 +1,5 @@
 pub mod Settle
+pub mod Asked
 pub mod Words
 pub mod Accesses
 pub mod Held

@@ -49,13 +49,23 @@ use Rattle.machine.proofs.Deciding.{Able, decided-able}
 -- ---- what keeps tables sound
 
 -- beside a memory of n bytes the tables u are sound, and have as many words and cores as t
-pub record Keeps (n : ℕ) (t u : List ℕ) : Type 0 where
+pub record Stays (n : ℕ) (t u : List ℕ) : Type 0 where
   pub long : length u ≡ length t
   pub cores : coresOf u ≡ coresOf t
   pub is-sound : sound u n ≡ true
 
+-- and the same count of refusals
+pub record Keeps (n : ℕ) (t u : List ℕ) : Type 0 where
+  pub long : length u ≡ length t
+  pub cores : coresOf u ≡ coresOf t
+  pub count : refusalsOf u ≡ refusalsOf t
+  pub is-sound : sound u n ≡ true
+
 keeps-then : {n : ℕ} {t u v : List ℕ} → Keeps n t u → Keeps n u v → Keeps n t v
-keeps-then p q = record { long = q .long ∙ p .long; cores = q .cores ∙ p .cores; is-sound = q .is-sound }
+keeps-then p q = record { long = q .long ∙ p .long; cores = q .cores ∙ p .cores; count = q .count ∙ p .count; is-sound = q .is-sound }
+
+keeps-stays : {n : ℕ} {t u : List ℕ} → Keeps n t u → Stays n t u
+keeps-stays K = record { long = K .long; cores = K .cores; is-sound = K .is-sound }
 
 -- a block of which these words stay, and the rest within their ranges: general register 0, the heads, the zeros and the records
 kept-sound : (P : ℕ → Type 0) → P 0 → ((i : ℕ) → 68 ≤ i → i ≤ 71 → P i) → ((i : ℕ) → 114 < i → P i) →
@@ -100,7 +110,7 @@ reset n f K =
 module _ (n : ℕ) where
   -- the tables themselves
   keeps-all : (t : List ℕ) → sound t n ≡ true → Keeps n t t
-  keeps-all t e = record { long = refl; cores = refl; is-sound = e }
+  keeps-all t e = record { long = refl; cores = refl; count = refl; is-sound = e }
 
   -- at the block of one core
   on-block : (f : List ℕ → List ℕ) → BlockKeeps n f → (t : List ℕ) → sound t n ≡ true → (k : ℕ) → k < coresOf t → Keeps n t (onBlock f k t)
@@ -110,6 +120,7 @@ module _ (n : ℕ) where
       record {
         long = with-long t k (f (block t k)) fits long;
         cores = with-header t k (f (block t k)) fits long at.cores (omega arith);
+        count = with-header t k (f (block t k)) fits long at.refusals (omega arith);
         is-sound = with-sound t n e k (f (block t k)) h long (B .as-sound (block t k) (core-sound t n e k h));
       }
 
@@ -127,6 +138,7 @@ module _ (n : ℕ) where
       record {
         long = length-set t (at.redirect + i) v;
         cores = getD-set-other t (at.redirect + i) at.cores v 0 (omega arith);
+        count = getD-set-other t (at.redirect + i) at.refusals v 0 (omega arith);
         is-sound = set-header-sound t n e (at.redirect + i) v (inr (omega arith, omega arith));
       }
 
@@ -202,22 +214,23 @@ module _ (t : List ℕ) (n : ℕ) (e : sound t n ≡ true) where
       record {
         long = length-set t at.lines w;
         cores = getD-set-other t at.lines at.cores w 0 (omega arith);
+        count = getD-set-other t at.lines at.refusals w 0 (omega arith);
         is-sound = set-lines-sound t n e w (bit-below 24 (linesOf t) l v (header t n e .few-lines) h hv);
       }
 
   -- the refusal count
-  pub counted-keeps : Keeps n t (counted t)
+  pub counted-keeps : Stays n t (counted t)
   unfolding counted
   counted-keeps = go (ltb (refusalsOf t) (2 ^ 32 - 1))
     where
-      go : (b : Bool) → Keeps n t (if b then set t at.refusals (refusalsOf t + 1) else t)
+      go : (b : Bool) → Stays n t (if b then set t at.refusals (refusalsOf t + 1) else t)
       go true =
           record {
             long = length-set t at.refusals (refusalsOf t + 1);
             cores = getD-set-other t at.refusals at.cores (refusalsOf t + 1) 0 (omega arith);
             is-sound = set-header-sound t n e at.refusals (refusalsOf t + 1) (inl refl);
           }
-      go false = keeps-all n t e
+      go false = keeps-stays (keeps-all n t e)
 
   pub counted-sound : sound (counted t) n ≡ true
   counted-sound = counted-keeps .is-sound
@@ -246,6 +259,7 @@ module _ (t m : List ℕ) (e : sound t (length m) ≡ true) where
       record {
         long = tables-long k p t fits long;
         cores = tables-local k p t fits long at.cores (inl (omega arith)) (inl (omega arith));
+        count = tables-local k p t fits long at.refusals (inl (omega arith)) (inl (omega arith));
         is-sound = subst (λ (n : ℕ). sound (cores.tablesAfter k p t) n ≡ true) (written-long (p .write) m) (plan-sound t m k p e l D);
       }
 
@@ -278,11 +292,11 @@ after-long (answer.Refused n) a t m = refl
 after-long answer.Done a t m = memory-long a m
 after-long (answer.Interrupt l) a t m = memory-long a m
 
-after-keeps : (n : ℕ) (r : Answer) (a : Action) (t m : List ℕ) → sound t n ≡ true → Keeps n t (tablesAfter a t) → Keeps n t (after r a t m .tables)
+after-keeps : (n : ℕ) (r : Answer) (a : Action) (t m : List ℕ) → sound t n ≡ true → Keeps n t (tablesAfter a t) → Stays n t (after r a t m .tables)
 unfolding after
 after-keeps n (answer.Refused x) a t m e K = counted-keeps t n e
-after-keeps n answer.Done a t m e K = K
-after-keeps n (answer.Interrupt l) a t m e K = K
+after-keeps n answer.Done a t m e K = keeps-stays K
+after-keeps n (answer.Interrupt l) a t m e K = keeps-stays K
 
 -- memory, whatever the tables are
 pub step-long : (t m s : List ℕ) → length (step t m s .memory) ≡ length m
@@ -293,7 +307,7 @@ step-long t m s = go (sound t (length m))
     go true = after-long (answerOf (decided t m s)) (decided t m s) t m
     go false = refl
 
-pub step-keeps : (t m s : List ℕ) → sound t (length m) ≡ true → Words t → Bytes m → Keeps (length m) t (step t m s .tables)
+pub step-keeps : (t m s : List ℕ) → sound t (length m) ≡ true → Words t → Bytes m → Stays (length m) t (step t m s .tables)
 unfolding step taken
 step-keeps t m s e ws bs =
     rw e (after-keeps (length m) (answerOf (decided t m s)) (decided t m s) t m e (decided-keeps t m e ws bs s))

@@ -7,3 +7,5 @@ pub mod Words
 pub mod Running
 pub mod Locality
 pub mod Counting
+pub mod Levels
+pub mod Answers

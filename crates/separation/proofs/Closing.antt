@@ -18,7 +18,7 @@ use Rattle.records.specs.Records.{all, stores, walks, walkIn, walkNumbers}
 use Rattle.records.specs.Contents.{storeSound, walkSound, allThere}
 use Rattle.tables.specs.Sound.{soundBlock}
 use Rattle.tables.proofs.Steps.{block-stores, block-walks}
-use Rattle.apic.proofs.Kept.{Words}
+use Rattle.word.proofs.Words.{Words}
 use Rattle.tlb.specs.declared.Entry.{Entry}
 use Rattle.tlb.specs.declared.Entry.the-variants.{Word, Missing}
 use Rattle.tlb.specs.Walks.{walkLevel, walkR, walkBa, baseAddress, entryAt, pteaAt, pteP, pteR, pteBa, complete}

@@ -32,7 +32,7 @@ use Rattle.separation.specs.Separation.{isInterrupt}
 use Rattle.reach.proofs.Lists.{In, Each, each-append}
 use Rattle.separation.proofs.Memory.{Agree, Kept, put-same, put-bytes}
 use Rattle.separation.proofs.Good.{WalkOk, StoreOk, Good, Closed, Low, good-after, each-with, each-staying, each-drop}
-use Rattle.separation.proofs.Plans.{Plain, planOf, formOf, Law, plan-done, step-law}
+use Rattle.machine.proofs.Locality.{Plain, planOf, formOf, Law, plan-done, step-law}
 use Rattle.separation.proofs.Local.{plan-same}
 use Rattle.separation.proofs.Safe.{BufferOk, WalksOk, Safe, plan-safe}
 

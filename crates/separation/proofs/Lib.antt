@@ -1,8 +1,6 @@
-pub mod Asked
 pub mod TwoLists
 pub mod Memory
 pub mod Good
-pub mod Plans
 pub mod Local
 pub mod Safe
 pub mod Facts

@@ -58,9 +58,9 @@ use Rattle.reach.proofs.Lists.{tested, clash, and-left, and-right, or-cases, if
 use Rattle.separation.proofs.Memory as memory
 use Rattle.separation.proofs.Memory.{page, Agree, Fits, inside-same, all-pages, entryAt-same}
 use Rattle.separation.proofs.Good.{AtLevel, WalkOk, StoreOk, Good, Closed, Low, low-local, low-io, among-each, table-reached, data-reached, writable-reached, walk-table, walk-page, walk-fits, spr-word}
-use Rattle.separation.proofs.Asked.{Same, same-refl, same-yield, same-ask, same-test, same-if, settle-same, first-met}
-use Rattle.separation.proofs.Plans as plans
-use Rattle.separation.proofs.Plans.{Plain, planOf}
+use Rattle.cores.proofs.Asked.{Same, same-refl, same-yield, same-ask, same-test, same-if, settle-same, first-met}
+use Rattle.machine.proofs.Locality as plans
+use Rattle.machine.proofs.Locality.{Plain, planOf}
 
 -- ---- accesses
 

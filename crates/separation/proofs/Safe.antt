@@ -72,10 +72,10 @@ use Rattle.separation.specs.Separation.{isInterrupt}
 use Rattle.reach.proofs.Lists.{tested, clash, and-left, and-right, and-both, or-cases, or-left, or-right, or-none-left, or-none-right, if-both, In, Each}
 use Rattle.separation.proofs.Memory.{page, Fits, same-page, Kept, kept-refl, put-free, put-mark}
 use Rattle.separation.proofs.Good.{AtLevel, WalkOk, StoreOk, Good, Closed, Low, low-local, low-io, table-reached, writable-reached, walk-table, walk-page}
-use Rattle.separation.proofs.Asked.{Judges, judges-yield, judges-ask, judges-test, judges-if, judges-settle}
+use Rattle.cores.proofs.Asked.{Judges, judges-yield, judges-ask, judges-test, judges-if, judges-settle}
 use Rattle.separation.proofs.Local.{aligned-fits, join-page, view-user, guard-held, guard-complete, complete-page, held-ok, user-address}
-use Rattle.separation.proofs.Plans as plans
-use Rattle.separation.proofs.Plans.{Plain, planOf}
+use Rattle.machine.proofs.Locality as plans
+use Rattle.machine.proofs.Locality.{Plain, planOf}
 
 -- ---- a plan that keeps within its side
 

@@ -24,7 +24,7 @@ use Rattle.reach.proofs.Lists.{tested, decided, clash, and-left, and-right, In,
 use Rattle.separation.proofs.TwoLists.{Keeps}
 use Rattle.separation.proofs.Memory.{page, Agree, Kept, kept-trans, kept-more, kept-agree, agree-sym, agree-trans, bytes-same}
 use Rattle.separation.proofs.Good.{Good, Closed, Low, closed-kept, table-reached, writable-reached}
-use Rattle.separation.proofs.Plans.{Law, plain-form}
+use Rattle.machine.proofs.Locality.{Law, plain-form}
 use Rattle.separation.proofs.Facts.{Steps, steps, law, Matched, matched}
 
 -- the pages of the two sides do not meet: G the group's, R the rest's

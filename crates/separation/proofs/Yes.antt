@@ -111,7 +111,7 @@ module _ (g : ℕ) (M : Machine) (I : Given M) (e : verdict g M ≡ Yes) where
   owned : (cs : List ℕ) (k : ℕ) → In k cs → k < coresOf (M .tables) → In k (group g M ++ others g M) → Good (reach cs (M .tables) (M .memory)) (block (M .tables) k)
   owned cs k h l u =
       good-reach cs (M .tables) (M .memory) k h (length (M .memory)) (core-sound (M .tables) (length (M .memory)) (conditions .sane) k l)
-      (block-words (M .tables) k (core-fits (M .tables) (length (M .memory)) (conditions .sane) k l) (I .words))
+      (block-words (M .tables) k (I .words))
       (and-right (runs (block (M .tables) k)) _ (all-in (runsAsUser (M .tables)) (group g M ++ others g M) k (conditions .user) u))
 
   pub start-within : Within g G R (coresOf (M .tables)) (M .memory) (start M)

@@ -54,11 +54,11 @@ use Rattle.cores.specs.Walks.{adding, planned}
 use Rattle.cores.specs.Buffer.{leavesTo, onOldest, bufferStep}
 use Rattle.cores.specs.Core.{View, isEvent, vectorOf, physical, faultOf, dataRequestOf, fetchRequestOf, causes, causesWithout, stopped, storedFrom, plain, onLoad, onStore, onCas, performed, unlessSuppressed, withoutAccess, isAccess, onAddress, onData, onAccess, onInstruction, onWord, onFetchAddress, onFetch, fetch, judged, coreStep}
 
--- 01's levels, and its refusals of a step
+-- 01's levels, and its refusals of a step on sound tables
 unfoldable pub known : Answer → Bool
 known Done = true
 known (Interrupt level) = ltb level 8
-known (Refused n) = leb 4 n && leb n 10
+known (Refused n) = leb 5 n && leb n 10
 
 -- ---- levels
 
@@ -89,7 +89,7 @@ level-lt ca p q = lowest-lt 32 8 ca p q (omega arith)
 
 -- ---- a core's step: every plan that it can come to
 
-refused-known : (n : ℕ) → leb 4 n && leb n 10 ≡ true → known (refused n .answer) ≡ true
+refused-known : (n : ℕ) → leb 5 n && leb n 10 ≡ true → known (refused n .answer) ≡ true
 unfolding known
 refused-known n e = e
 
@@ -229,7 +229,7 @@ adding-known l free w = go (among w l) (leb 23 (length l)) free
 
 -- the TLB refuses 6 and 7 only
 unfoldable decisionKnown : Decision → Bool
-decisionKnown (tlb.Refused n) = leb 4 n && leb n 10
+decisionKnown (tlb.Refused n) = leb 5 n && leb n 10
 decisionKnown (tlb.Adds w) = true
 decisionKnown (tlb.Marks a e) = true
 

@@ -5,13 +5,24 @@ use mathlib.Core.Bool.{Bool, true, false, _||_, false≢true}
 use mathlib.Core.List.{List, [], _∷_, _++_}
 use Prim.Native.Nat.{ℕ}
 use Rattle.word.specs.Word.{if_then_else_}
 use Rattle.cores.specs.Guards.{Guard, holds, fails, undecided, test, isFailure, isUndecided, anyOf, Judged, yield, ask, settle}
-use Rattle.reach.proofs.Lists.{tested, clash, or-none-left, or-none-right}
 
-pub anyRights-append : (p : Guard → Bool) (l r : List Guard) → anyOf p (l ++ r) ≡ anyOf p l || anyOf p r
+-- a test is a fact or its opposite
+tested : {B : Type 0} (t : Bool) → (t ≡ true → B) → (t ≡ false → B) → B
+tested true f g = f refl
+tested false f g = g refl
+
+clash : {A : Type 0} (t : Bool) → t ≡ true → t ≡ false → A
+clash t p q = absurd (false≢true (sym q ∙ p))
+
+neither : (a b : Bool) → a || b ≡ false → (a ≡ false) × (b ≡ false)
+neither true b e = absurd (false≢true (sym e))
+neither false b e = (refl, e)
+
+pub any-append : (p : Guard → Bool) (l r : List Guard) → anyOf p (l ++ r) ≡ anyOf p l || anyOf p r
 unfolding anyOf
-anyRights-append p [] r = refl
-anyRights-append p (g ∷ l) r = go (p g) (anyRights-append p l r)
+any-append p [] r = refl
+any-append p (g ∷ l) r = go (p g) (any-append p l r)
   where
     go : (a : Bool) → anyOf p (l ++ r) ≡ anyOf p l || anyOf p r → a || anyOf p (l ++ r) ≡ (a || anyOf p l) || anyOf p r
     go true e = refl
@@ -45,16 +56,16 @@ module _ {A : Type 0} where
         effects = λ h. clash (anyOf isFailure (l ++ j .guards)) (through j e) h;
       })
       (λ e. record {
-        breaks = anyRights-append isFailure l (j .guards) ∙ ap (λ (t : Bool). anyOf isFailure l || t) (f e .breaks) ∙ sym (anyRights-append isFailure l (k .guards));
-        opens = λ h. anyRights-append isUndecided l (j .guards) ∙ ap (λ (t : Bool). anyOf isUndecided l || t) (f e .opens (rest h)) ∙ sym (anyRights-append isUndecided l (k .guards));
+        breaks = any-append isFailure l (j .guards) ∙ ap (λ (t : Bool). anyOf isFailure l || t) (f e .breaks) ∙ sym (any-append isFailure l (k .guards));
+        opens = λ h. any-append isUndecided l (j .guards) ∙ ap (λ (t : Bool). anyOf isUndecided l || t) (f e .opens (rest h)) ∙ sym (any-append isUndecided l (k .guards));
         effects = λ h. f e .effects (rest h);
       })
     where
       through : (i : Judged A) → anyOf isFailure l ≡ true → anyOf isFailure (l ++ i .guards) ≡ true
-      through i e = anyRights-append isFailure l (i .guards) ∙ ap (λ (t : Bool). t || anyOf isFailure (i .guards)) e
+      through i e = any-append isFailure l (i .guards) ∙ ap (λ (t : Bool). t || anyOf isFailure (i .guards)) e
 
       rest : anyOf isFailure (l ++ j .guards) ≡ false → anyOf isFailure (j .guards) ≡ false
-      rest h = or-none-right (anyOf isFailure l) (anyOf isFailure (j .guards)) (sym (anyRights-append isFailure l (j .guards)) ∙ h)
+      rest h = neither (anyOf isFailure l) (anyOf isFailure (j .guards)) (sym (any-append isFailure l (j .guards)) ∙ h) .1
 
   -- one guard by a test
   pub same-test : (t : Bool) (j k : Judged A) → (t ≡ true → Same j k) → Same (ask (test t ∷ []) j) (ask (test t ∷ []) k)
@@ -86,8 +97,8 @@ module _ {A : Type 0} (P : A → Type 0) where
   judges-ask l j f =
       record {
         met = λ h.
-            let e : anyOf isFailure l || anyOf isFailure (j .guards) ≡ false = sym (anyRights-append isFailure l (j .guards)) ∙ h in
-            f (or-none-left (anyOf isFailure l) (anyOf isFailure (j .guards)) e) .met (or-none-right (anyOf isFailure l) (anyOf isFailure (j .guards)) e);
+            let e : anyOf isFailure l || anyOf isFailure (j .guards) ≡ false = sym (any-append isFailure l (j .guards)) ∙ h in
+            let n = neither (anyOf isFailure l) (anyOf isFailure (j .guards)) e in f (n .0) .met (n .1);
       }
 
   pub judges-test : (t : Bool) (j : Judged A) → (t ≡ true → Judges P j) → Judges P (ask (test t ∷ []) j)
