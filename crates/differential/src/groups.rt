@@ -48,15 +48,43 @@ fn verdict_of(t: &[u32], m: &[u8], group: u32) -> Verdict {
 fn reach_asked(v: u32, j: u32, t: &[u32], m: &[u8], group: u32, map: &mut [u8], tally: &mut [u32]) {
     let r = reach_of(t, m, group, map);
     report::reached(tally, r);
-    report::compare(tally, v, b" reach of question ", j, reached_number(r), input::number(1));
-    report::compare(tally, v, b" page beyond memory in question ", j, beyond_number(r), input::number(1));
-    report::compare(tally, v, b" map of question ", j, replay::sum_map(map), input::number(4));
+    report::compare(
+        tally,
+        v,
+        b" reach of question ",
+        j,
+        reached_number(r),
+        input::number(1),
+    );
+    report::compare(
+        tally,
+        v,
+        b" page beyond memory in question ",
+        j,
+        beyond_number(r),
+        input::number(1),
+    );
+    report::compare(
+        tally,
+        v,
+        b" map of question ",
+        j,
+        replay::sum_map(map),
+        input::number(4),
+    );
 }
 
 fn apart_asked(v: u32, j: u32, t: &[u32], m: &[u8], group: u32, tally: &mut [u32]) {
     let a = verdict_of(t, m, group);
     report::verdict(tally, a);
-    report::compare(tally, v, b" apart of question ", j, verdict_number(a), input::number(1));
+    report::compare(
+        tally,
+        v,
+        b" apart of question ",
+        j,
+        verdict_number(a),
+        input::number(1),
+    );
 }
 
 // Question j: a group, and the length of the map to hand over, from the front of the room lent.
