@@ -1,5 +1,6 @@
 /*
- * The MIPS-86 machine with one to four cores: make a machine, take one step, run a schedule.
+ * The MIPS-86 machine with one to four cores: make a machine, take one step, run a schedule; which pages a group of
+ * cores reaches, and whether the group is kept apart from the others.
  *
  * The caller lends the machine's tables (32-bit words) and its memory (bytes). All of the machine is in them: nothing
  * is kept between calls, nothing is allocated, and a copy of both is a copy of the machine.
@@ -46,10 +47,10 @@ extern "C" {
 
 /*
  * What is asked of every call. Each pointer is not null, is aligned for its type, and points to as many words or bytes
- * as the length after it says (with the length 0 it is still not null). The tables and the memory, which are written,
- * overlap nothing else that the call is given: nor does the word at `accepted`. No other thread writes what a call was
- * lent, or reads the tables, the memory or `*accepted`, until it returns. Calls on different machines may run at the
- * same time. There is no other condition: any words and bytes may be handed over.
+ * as the length after it says (with the length 0 it is still not null). What a call may write (all that is not const:
+ * tables, memory, the map, the words at `accepted` and `beyond`) overlaps nothing else that the call is given. Until it
+ * returns no other thread writes what a call was lent, or reads what it may write. Calls on different machines may run
+ * at the same time. There is no other condition: any words and bytes may be handed over.
  */
 
 /*
@@ -57,7 +58,7 @@ extern "C" {
  *    1 cores not 1 to 4                            (make)
  *    2 memory not 1 to 4,096 whole pages           (make)
  *    3 table length not that of the cores          (make)
- *    4 tables not sound                            (step, run)
+ *    4 tables not sound                            (all but make)
  *    5 not a step                                  (step, run)
  *    6 the machine has no next state by this step  (step, run)
  *    7 a byte is in neither memory nor a port      (step, run)
@@ -65,11 +66,15 @@ extern "C" {
  *    9 a twenty-fourth walk                        (step, run)
  *   10 no free record                              (step, run)
  *   11 schedule not of whole steps, or over 1,024  (run)
+ *   12 the map's length is not the page count      (reach)
+ *   13 group empty, or names a core not there      (reach, apart)
  * Where several apply, the first of them is given.
  */
-#define MIPS86_DONE 0u      /* made; the step is done; the end of the schedule */
+#define MIPS86_DONE 0u      /* made; the step is done; the end of the schedule; the map is filled */
 #define MIPS86_LIMIT 1u     /* run: the limit is spent */
 #define MIPS86_INTERRUPT 1u /* step: 1 to 8, plus the level 0 to 7 */
+#define MIPS86_NO 0u        /* apart */
+#define MIPS86_YES 1u       /* apart */
 #define MIPS86_REFUSED 100u
 
 /*
@@ -95,6 +100,38 @@ uint32_t mips86_step(uint32_t *tables, size_t ntables, uint8_t *memory, size_t n
  */
 uint32_t mips86_run(uint32_t *tables, size_t ntables, uint8_t *memory, size_t nmemory, const uint32_t *schedule,
                     size_t nschedule, uint32_t limit, uint32_t *accepted);
+
+/*
+ * A byte of the map is the sum of what the page of that number is for the group; 0 where the group does not reach it.
+ * A writable page is a data page too.
+ */
+#define MIPS86_DATA 1u     /* named by a present entry of a second-level table, a complete walk or a pending store */
+#define MIPS86_TABLE 2u    /* named by pto, a present entry of a first-level table or a walk that is not complete */
+#define MIPS86_WRITABLE 4u /* a data page by an entry or walk that grants write, or by a pending store */
+
+/*
+ * Fills the map, one byte a page, for a group of cores. Bit n of `group` stands for core n. Every core of the group
+ * counts, in any mode, whether or not it runs.
+ * Answers 0, or a refusal (4, 12, 13), which leaves the map. Writes to *beyond 1 where a page beyond memory is reached,
+ * as a port's is, and else 0 (0 with a refusal). The map is filled in both cases.
+ */
+uint32_t mips86_reach(const uint32_t *tables, size_t ntables, const uint8_t *memory, size_t nmemory, uint32_t group,
+                      uint8_t *map, size_t nmap, uint32_t *beyond);
+
+/*
+ * Is the group kept apart from the rest, the other running cores? Yes exactly if every core of both is running in user
+ * mode, neither reaches a page beyond memory, no page is both writable and table for one of them, and no page that the
+ * group reaches is writable or table for the rest. The rest may read what the group writes.
+ * Answers 0 no, 1 yes, or a refusal (4, 13). Writes nothing. Uses some 60 KB of stack.
+ *
+ * What a yes promises. Take any other machine with a yes for that group, in which the group's blocks and the pages that
+ * it reaches are the same. On each of the two carry out any list of single steps, of kinds 0 to 4, of cores that run at
+ * the start, each up to its first interrupt, the group's steps the same in both and in the same order; nobody else
+ * writes the machines meanwhile. Then, whatever the others hold and do, the group gets the same answers, and after each
+ * of its steps all words of its blocks and all bytes of its pages are the same in both. In each machine a page that is
+ * neither writable nor table for either side keeps its bytes, and a table page keeps them but for accessed bits.
+ */
+uint32_t mips86_apart(const uint32_t *tables, size_t ntables, const uint8_t *memory, size_t nmemory, uint32_t group);
 
 #ifdef __cplusplus
 }

@@ -1,6 +1,8 @@
-//! Times the proved machine beside the plain simulator (`../oracle`) in one process, on the same machines and schedules.
-//! With an argument only the schedules whose name holds it. See docs/PERFORMANCE.md.
+//! Times the proved machine beside the plain simulator (`../oracle`) in one process, on the same machines: schedules of
+//! steps, and maps on which reach and apart answer. With an argument only those whose name holds it. See
+//! docs/PERFORMANCE.md.
 
+mod maps;
 mod schedules;
 
 use schedules::Case;
@@ -43,13 +45,18 @@ fn oracle_checked(t: &mut [u32], m: &mut [u8], s: &[u32]) -> usize {
     oracle_steps(true, t, m, s)
 }
 
-/// Nanoseconds a step: the best and the median of all repeats.
+/// Nanoseconds: the best and the median of all repeats.
 struct Time {
     best: f64,
     median: f64,
 }
 
-/// Each way's time. All of them must accept every step and leave the same tables and memory.
+fn time(mut nanos: Vec<f64>) -> Time {
+    nanos.sort_by(f64::total_cmp);
+    Time { best: nanos[0], median: nanos[nanos.len() / 2] }
+}
+
+/// Each way's time a step. All of them must accept every step and leave the same tables and memory.
 fn times(case: &Case, ways: &[Way]) -> Vec<Time> {
     let steps = case.schedule.len() / 6;
     let mut nanos = vec![Vec::with_capacity(REPEATS); ways.len()];
@@ -69,53 +76,138 @@ fn times(case: &Case, ways: &[Way]) -> Vec<Time> {
         assert!(*l == left[0], "{}: way {k} leaves another machine than way 0", case.name);
     }
     assert!(left[0].0 != case.tables, "{}: the tables did not move", case.name);
-    nanos
-        .into_iter()
-        .map(|mut n| {
-            n.sort_by(f64::total_cmp);
-            Time { best: n[0], median: n[n.len() / 2] }
-        })
-        .collect()
+    nanos.into_iter().map(time).collect()
+}
+
+/// The map of a case and a way's answer: beyond memory for reach, the verdict for apart.
+type Answer = (Vec<u8>, bool);
+
+/// A way to answer a question on tables and memory: it fills the map that it is given, or leaves it.
+type Question = fn(&[u32], &[u8], u32, &mut [u8]) -> Result<bool, u32>;
+
+fn proved_apart(t: &[u32], m: &[u8], group: u32, _: &mut [u8]) -> Result<bool, u32> {
+    mips86::apart(t, m, group)
+}
+
+fn oracle_apart(t: &[u32], m: &[u8], group: u32, _: &mut [u8]) -> Result<bool, u32> {
+    oracle::apart(t, m, group)
+}
+
+/// Each way's time a call, then that of one plain read of the table pages, which adds up their words, and of one that
+/// takes each word by itself. The ways must agree on the answer and the map.
+fn question_times(case: &maps::Case, read: &[usize], ways: &[Question]) -> (Vec<Time>, Answer) {
+    let (t, m) = (&case.tables[..], &case.memory[..]);
+    let mut nanos = vec![Vec::with_capacity(case.repeats); ways.len() + 2];
+    let mut answers: Vec<Answer> = vec![(vec![0; m.len() / mips86::PAGE_BYTES], false); ways.len()];
+    for _ in 0..case.repeats {
+        for (k, way) in ways.iter().enumerate() {
+            let start = Instant::now();
+            let answer = way(black_box(t), black_box(m), black_box(case.group), black_box(&mut answers[k].0));
+            nanos[k].push(start.elapsed().as_nanos() as f64);
+            answers[k].1 = answer.unwrap_or_else(|why| panic!("{}: way {k} refused {why}", case.name));
+        }
+        let words = || black_box(read).iter().flat_map(|&page| maps::words(black_box(m), page));
+        let start = Instant::now();
+        black_box(words().fold(0, u32::wrapping_add));
+        nanos[ways.len()].push(start.elapsed().as_nanos() as f64);
+        let start = Instant::now();
+        words().for_each(|word| {
+            black_box(word);
+        });
+        nanos[ways.len() + 1].push(start.elapsed().as_nanos() as f64);
+    }
+    for (k, answer) in answers.iter().enumerate() {
+        assert!(*answer == answers[0], "{}: way {k} answers otherwise than way 0", case.name);
+    }
+    (nanos.into_iter().map(time).collect(), answers.swap_remove(0))
+}
+
+/// The targets that were missed.
+#[derive(Default)]
+struct Missed(Vec<String>);
+
+impl Missed {
+    fn hold(&mut self, name: &str, ratio: f64, most: f64) {
+        if ratio > most {
+            self.0.push(format!("{name}: {ratio:.2}, target at most {most:.1}"));
+        }
+    }
+}
+
+fn time_schedule(case: &Case, missed: &mut Missed) {
+    println!("\n{}", case.name);
+    let run = times(case, &[proved_run, oracle_run]);
+    let ratio = run[0].median / run[1].median;
+    println!(
+        "  run     proved {:7.1} / {:7.1}   plain, unchecked {:7.1} / {:7.1}   ratio {ratio:.2}",
+        run[0].best, run[0].median, run[1].best, run[1].median
+    );
+    missed.hold(&format!("{}, run", case.name), ratio, 1.0);
+    let step = times(case, &[proved_steps, oracle_unchecked, oracle_checked]);
+    let ratio = step[0].median / step[1].median;
+    println!(
+        "  step    proved {:7.1} / {:7.1}   plain, unchecked {:7.1} / {:7.1}   ratio {ratio:.2}",
+        step[0].best, step[0].median, step[1].best, step[1].median
+    );
+    println!(
+        "                                    plain, checked   {:7.1} / {:7.1}   ratio {:.2}",
+        step[2].best,
+        step[2].median,
+        step[0].median / step[2].median
+    );
+    missed.hold(&format!("{}, step", case.name), ratio, 3.0);
+}
+
+fn print_question(name: &str, case: &maps::Case, read: &[usize], times: &[Time], missed: &mut Missed) {
+    let micros = |t: &Time| format!("{:8.1} / {:8.1}", t.best / 1000.0, t.median / 1000.0);
+    let [plain, once, by_word] = [1, 2, 3].map(|k| times[0].median / times[k].median);
+    println!("\n{}, {name}: {} table pages read", case.name, read.len());
+    println!("  {name}   proved {}   plain            {}   ratio {plain:.2}", micros(&times[0]), micros(&times[1]));
+    println!("                                      the tables read  {}   ratio {once:.2}", micros(&times[2]));
+    println!("                                      word by word     {}   ratio {by_word:.2}", micros(&times[3]));
+    missed.hold(&format!("{}, {name} to the plain simulator's", case.name), plain, 1.0);
+    missed.hold(&format!("{}, {name} to one read of the tables", case.name), once, 2.0);
+}
+
+fn time_reach(case: &maps::Case, missed: &mut Missed) {
+    let read = maps::table_pages(case, case.group);
+    let (times, (map, beyond)) = question_times(case, &read, &[mips86::reach, oracle::reach]);
+    let tables = map.iter().filter(|byte| *byte & mips86::TABLE != 0).count();
+    assert!(!beyond && map.iter().all(|&byte| byte != 0), "{}: each page is reached, and none beyond", case.name);
+    assert!(read.iter().all(|&p| map[p] & mips86::TABLE != 0) && tables <= read.len(), "{}: tables", case.name);
+    print_question("reach", case, &read, &times, missed);
+}
+
+fn time_apart(case: &maps::Case, missed: &mut Missed) {
+    let read = [case.group, maps::ALL & !case.group].map(|side| maps::table_pages(case, side)).concat();
+    let (times, (_, yes)) = question_times(case, &read, &[proved_apart, oracle_apart]);
+    assert!(yes, "{}: the answer is yes, for which both sides' tables are read", case.name);
+    print_question("apart", case, &read, &times, missed);
 }
 
 fn main() {
-    println!("nanoseconds a step, best / median of {REPEATS} repeats of 1,024 steps; ratios of the medians");
-    let mut missed = Vec::new();
-    let mut hold = |name: &str, ratio: f64, most: f64| {
-        if ratio > most {
-            missed.push(format!("{name}: {ratio:.2}, target at most {most:.1}"));
-        }
-    };
+    let mut missed = Missed::default();
     let part = std::env::args().nth(1).unwrap_or_default();
+    println!("nanoseconds a step, best / median of {REPEATS} repeats of 1,024 steps; ratios of the medians");
     for case in [schedules::system(), schedules::user(), schedules::tlb()] {
-        if !case.name.contains(&part) {
-            continue;
+        if case.name.contains(&part) {
+            time_schedule(&case, &mut missed);
         }
-        println!("\n{}", case.name);
-        let run = times(&case, &[proved_run, oracle_run]);
-        let ratio = run[0].median / run[1].median;
-        println!(
-            "  run     proved {:7.1} / {:7.1}   plain, unchecked {:7.1} / {:7.1}   ratio {ratio:.2}",
-            run[0].best, run[0].median, run[1].best, run[1].median
-        );
-        hold(&format!("{}, run", case.name), ratio, 1.0);
-        let step = times(&case, &[proved_steps, oracle_unchecked, oracle_checked]);
-        let ratio = step[0].median / step[1].median;
-        println!(
-            "  step    proved {:7.1} / {:7.1}   plain, unchecked {:7.1} / {:7.1}   ratio {ratio:.2}",
-            step[0].best, step[0].median, step[1].best, step[1].median
-        );
-        println!(
-            "                                    plain, checked   {:7.1} / {:7.1}   ratio {:.2}",
-            step[2].best,
-            step[2].median,
-            step[0].median / step[2].median
-        );
-        hold(&format!("{}, step", case.name), ratio, 3.0);
+    }
+    println!("\nmicroseconds a call, best / median; ratios of the medians");
+    for case in [maps::sparse(maps::ALL), maps::dense_reach()] {
+        if case.name.contains(&part) {
+            time_reach(&case, &mut missed);
+        }
+    }
+    for case in [maps::sparse(maps::HALF), maps::dense_apart()] {
+        if case.name.contains(&part) {
+            time_apart(&case, &mut missed);
+        }
     }
     println!();
-    for m in &missed {
+    for m in &missed.0 {
         println!("missed: {m}");
     }
-    println!("{} targets missed", missed.len());
+    println!("{} targets missed", missed.0.len());
 }

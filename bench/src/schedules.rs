@@ -11,27 +11,27 @@ pub struct Case {
 const STEPS: usize = 1024;
 
 // Places of the tables, for core 0.
-const BLOCK: usize = 32;
-const SPR: usize = BLOCK + 32;
+pub const BLOCK: usize = 32;
+pub const SPR: usize = BLOCK + 32;
 const PC: usize = BLOCK + 64;
-const WALKS: usize = BLOCK + 69;
-const FREE: usize = BLOCK + 70;
-const RECORDS: usize = BLOCK + 128;
+pub const WALKS: usize = BLOCK + 69;
+pub const FREE: usize = BLOCK + 70;
+pub const RECORDS: usize = BLOCK + 128;
 const EPC: usize = 3;
-const PTO: usize = 5;
-const MODE: usize = 7;
+pub const PTO: usize = 5;
+pub const MODE: usize = 7;
 
 /// All rights of a walk or an entry.
-const RIGHTS: u32 = 7;
+pub const RIGHTS: u32 = 7;
 
-fn machine(cores: usize, pages: usize) -> (Vec<u32>, Vec<u8>) {
+pub fn machine(cores: usize, pages: usize) -> (Vec<u32>, Vec<u8>) {
     let mut tables = vec![0; mips86::table_words(cores)];
     let memory = vec![0; pages * mips86::PAGE_BYTES];
     mips86::make(&mut tables, &memory, cores as u32).expect("a machine is made");
     (tables, memory)
 }
 
-fn put(memory: &mut [u8], address: usize, word: u32) {
+pub fn put(memory: &mut [u8], address: usize, word: u32) {
     memory[address..][..4].copy_from_slice(&word.to_le_bytes());
 }
 

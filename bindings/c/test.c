@@ -20,11 +20,12 @@ static void check_at(int line, const char *what, unsigned long found, unsigned l
 #define CHECK(found, expected) check_at(__LINE__, #found, (unsigned long)(found), (unsigned long)(expected))
 
 /* places of the tables */
-enum { CORES = 0, PAGES = 1, REFUSALS = 2, LINES = 3, BLOCK = 32, PC = 64, RUNNING = 67, FREE = 70, PORTS = 72, RECORDS = 128 };
+enum { CORES = 0, PAGES = 1, REFUSALS = 2, LINES = 3, BLOCK = 32, PTO = 37, MODE = 39, PC = 64, RUNNING = 67 };
+enum { STORES = 68, WALKS = 69, FREE = 70, PORTS = 72, RECORDS = 128 };
 
 /* a machine, and a copy of it to compare with */
 #define WORDS MIPS86_TABLE_WORDS(MIPS86_MOST_CORES)
-#define BYTES (2 * MIPS86_PAGE_BYTES)
+#define BYTES (16 * MIPS86_PAGE_BYTES)
 static uint32_t tables[WORDS], expected[WORDS];
 static uint8_t memory[BYTES], bytes[BYTES];
 static size_t words;
@@ -209,6 +210,293 @@ static void test_run(void) {
     CHECK(SAME(), 1);
 }
 
+/* ---- reach and apart */
+
+enum { WRITE = 1, USER = 2, EXECUTE = 4, ALL = 7 };
+
+/* the core is running in user mode, with its first-level table in this page; the low bits of pto say nothing */
+static void user(uint32_t core, uint32_t table) {
+    uint32_t *block = tables + BLOCK + 256 * core;
+    block[RUNNING] = 1;
+    block[MODE] = 1;
+    block[PTO] = table << 12 | 0xABC;
+}
+
+/* puts a free record to the front of a chain */
+static void hold(uint32_t core, uint32_t chain, uint32_t first, uint32_t second, uint32_t third) {
+    uint32_t *block = tables + BLOCK + 256 * core, number = block[FREE], *record = block + RECORDS + 4 * number;
+    block[FREE] = record[0];
+    record[0] = block[chain];
+    block[chain] = number;
+    record[1] = first;
+    record[2] = second;
+    record[3] = third;
+}
+
+static void walk(uint32_t core, uint32_t level, uint32_t rights, uint32_t base) {
+    hold(core, WALKS, 0x77u << 12 | core << 6 | level << 3 | rights, base, 0);
+}
+
+static void store(uint32_t core, uint32_t address) {
+    hold(core, STORES, address, 0x5A, address % 4 == 0 ? 4 : 1);
+}
+
+static void entry(uint32_t table, uint32_t index, uint32_t page, uint32_t rights, uint32_t present) {
+    uint32_t word = page << 12 | present << 11 | rights << 8;
+    uint8_t *at = memory + table * MIPS86_PAGE_BYTES + 4 * index;
+    for (int k = 0; k < 4; k++) at[k] = (uint8_t)(word >> 8 * k);
+}
+
+static uint8_t map[17];
+static uint32_t beyond;
+
+static uint32_t reach(uint32_t group, size_t nmap) {
+    memset(map, 0xEE, sizeof map);
+    beyond = 77;
+    return mips86_reach(tables, words, memory, length, group, map, nmap, &beyond);
+}
+
+static uint32_t apart(uint32_t group) {
+    return mips86_apart(tables, words, memory, length, group);
+}
+
+/* the group's map, byte by byte, and whether it reaches beyond; neither tables nor memory are written */
+static void maps_to(int line, uint32_t group, const uint8_t *pages, uint32_t past) {
+    remember();
+    check_at(line, "reach", reach(group, 16), MIPS86_DONE);
+    for (int page = 0; page < 16; page++) check_at(line, "a byte of the map", map[page], pages[page]);
+    check_at(line, "the byte after the map", map[16], 0xEE);
+    check_at(line, "beyond", beyond, past);
+    check_at(line, "SAME()", SAME(), 1);
+}
+#define MAPS_TO(group, pages, past) maps_to(__LINE__, group, pages, past)
+
+static void refuses(int line, uint32_t group, size_t nmap, uint32_t why) {
+    remember();
+    check_at(line, "reach", reach(group, nmap), MIPS86_REFUSED + why);
+    for (size_t page = 0; page < sizeof map; page++) check_at(line, "a byte of the map", map[page], 0xEE);
+    check_at(line, "beyond", beyond, 0);
+    check_at(line, "apart", apart(group), why == 12 ? MIPS86_NO : MIPS86_REFUSED + why);
+    check_at(line, "SAME()", SAME(), 1);
+}
+#define REFUSES(group, nmap, why) refuses(__LINE__, group, nmap, why)
+
+static void test_group_refusals(void) {
+    make(2, 16);
+    tables[BLOCK + PTO] = 16 << 12; /* the group reaches beyond memory, which a refusal does not say */
+    REFUSES(1, 15, 12);
+    REFUSES(1, 17, 12);
+    REFUSES(1, 0, 12);
+    REFUSES(0, 16, 13);
+    REFUSES(4, 16, 13);
+    REFUSES(5, 16, 13);
+    REFUSES(0x80000000, 16, 13);
+    REFUSES(0x80000001, 16, 13);
+    remember();
+    CHECK(reach(0, 15), 112);
+    CHECK(apart(0), 113);
+    tables[BLOCK + RUNNING] = 2;
+    REFUSES(1, 16, 4);
+    REFUSES(1, 15, 4);
+    REFUSES(0, 16, 4);
+    REFUSES(0, 15, 4);
+    tables[BLOCK + RUNNING] = 1;
+    remember();
+    CHECK(mips86_reach(tables, words - 1, memory, length, 1, map, 16, &beyond), 104);
+    CHECK(mips86_reach(tables, words, memory, length - 4096, 1, map, 15, &beyond), 104);
+    CHECK(mips86_apart(tables, words - 1, memory, length, 1), 104);
+    CHECK(mips86_apart(tables, words, memory, length - 4096, 1), 104);
+    CHECK(mips86_apart(tables, 0, memory, 0, 0), 104);
+    CHECK(SAME(), 1);
+}
+
+/* three cores whose maps are known byte by byte; core 1 is not running and in system mode */
+static void make_maps(void) {
+    make(3, 16);
+    user(0, 1);
+    entry(1, 0, 2, ALL, 1); /* the rights of a first-level entry make no page writable */
+    entry(1, 1023, 3, 0, 1);
+    entry(1, 5, 12, ALL, 0); /* absent */
+    entry(2, 0, 4, USER, 1);
+    entry(2, 1023, 5, WRITE, 1);
+    entry(2, 7, 12, ALL, 0); /* absent */
+    entry(2, 8, 3, EXECUTE, 1);
+    entry(3, 1, 4, USER | EXECUTE, 1);
+    entry(4, 0, 12, ALL, 1); /* page 4 is no table */
+    tables[BLOCK + 256 + PTO] = 15 << 12;
+    walk(1, 2, 0, 6);
+    entry(6, 512, 7, 0, 1);
+    entry(7, 3, 5, USER, 1);
+    entry(7, 4, 8, WRITE, 1);
+    walk(1, 1, WRITE, 8);
+    entry(8, 1, 2, USER, 1);
+    walk(1, 0, WRITE, 9);
+    walk(1, 0, USER | EXECUTE, 10);
+    store(1, 0xB000);
+    store(1, 0xBFFF);
+    user(2, 13); /* in neither group below */
+}
+
+static const uint8_t map_of_0[16] = {0, 2, 2, 3, 1, 5, 0, 0, 0, 0, 0, 0, 0, 0, 0, 0};
+static const uint8_t map_of_1[16] = {0, 0, 1, 0, 0, 1, 2, 2, 7, 5, 1, 5, 0, 0, 0, 2};
+static const uint8_t map_of_both[16] = {0, 2, 3, 3, 1, 5, 2, 2, 7, 5, 1, 5, 0, 0, 0, 2};
+static const uint8_t map_of_2[16] = {0, 0, 0, 0, 0, 0, 0, 0, 0, 0, 0, 0, 0, 2, 0, 0};
+
+static void test_reach(void) {
+    make_maps();
+    MAPS_TO(1, map_of_0, 0);
+    MAPS_TO(2, map_of_1, 0);
+    MAPS_TO(3, map_of_both, 0);
+    MAPS_TO(4, map_of_2, 0);
+
+    /* each way beyond memory by itself: it leaves the other bytes, and is none of core 0's */
+    make_maps();
+    tables[BLOCK + 256 + PTO] = 16 << 12;
+    CHECK(reach(2, 16), 0);
+    CHECK(beyond, 1);
+    CHECK(map[15], 0);
+    MAPS_TO(1, map_of_0, 0);
+    for (uint32_t level = 0; level < 3; level++) {
+        make_maps();
+        walk(1, level, ALL, 16);
+        MAPS_TO(2, map_of_1, 1);
+        MAPS_TO(1, map_of_0, 0);
+        make_maps();
+        walk(1, level, 0, 0xFFFFF);
+        MAPS_TO(3, map_of_both, 1);
+    }
+    for (uint32_t table = 6; table < 8; table++) {
+        make_maps();
+        entry(table, 9, 16, 0, 0);
+        MAPS_TO(2, map_of_1, 0);
+        entry(table, 9, 16, 0, 1);
+        MAPS_TO(2, map_of_1, 1);
+        MAPS_TO(1, map_of_0, 0);
+        entry(table, 9, 0xFFFFF, ALL, 1);
+        MAPS_TO(2, map_of_1, 1);
+    }
+    static const uint32_t ports[4] = {0xFFFFF000, 0xFFFFF07F, 0xFFFFE000, 0xFFFFE004};
+    for (int k = 0; k < 4; k++) {
+        make_maps();
+        store(1, ports[k]);
+        MAPS_TO(2, map_of_1, 1);
+        MAPS_TO(1, map_of_0, 0);
+    }
+}
+
+/* Cores 0 and 1 share tables and pages 1 to 3, core 2 has pages 5 to 7; both sides read page 4, and core 2 reads page 3
+ * too. Core 3 is not running, so it is of neither side: it is in system mode and reaches into both. */
+static void make_sides(void) {
+    make(4, 16);
+    user(0, 1);
+    user(1, 1);
+    entry(1, 0, 2, ALL, 1);
+    entry(2, 0, 3, WRITE | USER, 1);
+    entry(2, 1, 4, USER | EXECUTE, 1);
+    walk(0, 2, ALL, 1);
+    walk(0, 1, ALL, 2);
+    walk(1, 0, WRITE | USER, 3);
+    store(1, 0x3000);
+    user(2, 5);
+    entry(5, 0, 6, ALL, 1);
+    entry(6, 0, 7, WRITE | USER, 1);
+    entry(6, 1, 4, USER, 1);
+    entry(6, 2, 3, USER, 1);
+    walk(2, 2, ALL, 5);
+    walk(2, 1, ALL, 6);
+    walk(2, 0, WRITE | USER, 7);
+    store(2, 0x7000);
+    tables[BLOCK + 3 * 256 + PTO] = 3 << 12;
+    store(3, 0x1000);
+    store(3, 0x5000);
+    store(3, 0xFFFFF000);
+}
+
+/* the verdict for cores 0 and 1 on the sides with one thing changed, and the same sides again */
+static void says(int line, uint32_t verdict) {
+    remember();
+    check_at(line, "apart", apart(3), verdict);
+    check_at(line, "SAME()", SAME(), 1);
+    make_sides();
+}
+#define SAYS(verdict) says(__LINE__, verdict)
+
+static void test_apart(void) {
+    make_sides();
+    CHECK(apart(4), MIPS86_NO); /* core 2 reads what core 0 writes */
+    CHECK(apart(1), MIPS86_NO); /* core 1 shares the table of core 0 */
+    CHECK(apart(15), MIPS86_NO); /* core 3 stands */
+    SAYS(MIPS86_YES);
+    tables[BLOCK + 2 * 256 + RUNNING] = 0; /* the rest is empty */
+    SAYS(MIPS86_YES);
+    entry(6, 3, 4, USER | EXECUTE, 1);
+    SAYS(MIPS86_YES);
+
+    /* a core that is not running, or in system mode */
+    tables[BLOCK + 256 + RUNNING] = 0;
+    SAYS(MIPS86_NO);
+    tables[BLOCK + 256 + MODE] = 2; /* bit 0 is the mode */
+    SAYS(MIPS86_NO);
+    tables[BLOCK + 256 + MODE] = 3;
+    SAYS(MIPS86_YES);
+    tables[BLOCK + 2 * 256 + MODE] = 0;
+    SAYS(MIPS86_NO);
+    tables[BLOCK + 3 * 256 + RUNNING] = 1; /* now it counts */
+    SAYS(MIPS86_NO);
+
+    /* a page beyond memory, for the group and for the rest */
+    walk(0, 0, USER, 16);
+    SAYS(MIPS86_NO);
+    entry(1, 1, 16, 0, 1);
+    SAYS(MIPS86_NO);
+    store(1, 0xFFFFF000);
+    SAYS(MIPS86_NO);
+    walk(2, 0, USER, 16);
+    SAYS(MIPS86_NO);
+    entry(6, 3, 16, 0, 1);
+    SAYS(MIPS86_NO);
+    store(2, 0xFFFFE000);
+    SAYS(MIPS86_NO);
+
+    /* a page both writable and table for one side; without the write right it is none */
+    entry(2, 3, 2, WRITE, 1);
+    SAYS(MIPS86_NO);
+    entry(2, 3, 2, USER | EXECUTE, 1);
+    SAYS(MIPS86_YES);
+    store(1, 0x1FFF);
+    SAYS(MIPS86_NO);
+    walk(0, 1, ALL, 3);
+    SAYS(MIPS86_NO);
+    entry(6, 3, 6, WRITE, 1);
+    SAYS(MIPS86_NO);
+    entry(6, 3, 6, USER | EXECUTE, 1);
+    SAYS(MIPS86_YES);
+    store(2, 0x5FFF);
+    SAYS(MIPS86_NO);
+    walk(2, 1, ALL, 7);
+    SAYS(MIPS86_NO);
+
+    /* a page that the group reaches is writable for the rest */
+    entry(6, 3, 4, WRITE, 1);
+    SAYS(MIPS86_NO);
+    walk(2, 0, WRITE, 3);
+    SAYS(MIPS86_NO);
+    store(2, 0x2000);
+    SAYS(MIPS86_NO);
+    entry(2, 3, 7, USER, 1);
+    SAYS(MIPS86_NO);
+
+    /* a page that the group reaches is a table for the rest; the rest may read the group's tables */
+    tables[BLOCK + 2 * 256 + PTO] = 2 << 12;
+    SAYS(MIPS86_NO);
+    walk(2, 1, 0, 4);
+    SAYS(MIPS86_NO);
+    entry(2, 3, 6, USER, 1);
+    SAYS(MIPS86_NO);
+    entry(6, 3, 2, USER, 1);
+    SAYS(MIPS86_YES);
+}
+
 int main(void) {
     test_make();
     test_example();
@@ -216,6 +504,9 @@ int main(void) {
     test_unsound();
     test_core();
     test_run();
+    test_group_refusals();
+    test_reach();
+    test_apart();
     printf("C test: %u checks, %u failed\n", checks, failures);
     return failures != 0;
 }

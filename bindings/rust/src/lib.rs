@@ -1,4 +1,5 @@
-//! The MIPS-86 machine with one to four cores, for Rust: make a machine, take one step, run a schedule.
+//! The MIPS-86 machine with one to four cores, for Rust: make a machine, take one step, run a schedule; which pages a
+//! group of cores reaches, and whether the group is kept apart from the others.
 //!
 //! The caller lends the machine's tables and its memory. All of the machine is in them: nothing is kept between calls.
 //! Every call is safe with any words and bytes, since the functions ask nothing but sound references. What each
@@ -11,6 +12,15 @@ pub const PAGE_BYTES: usize = 4096;
 pub const STEP_WORDS: usize = 6;
 /// The most steps of a schedule.
 pub const MOST_STEPS: usize = 1024;
+
+/// In a map's byte: the page is named by a present entry of a second-level table, by a complete walk or by a pending
+/// store.
+pub const DATA: u8 = 1;
+/// In a map's byte: the page is named by pto, by a present entry of a first-level table or by a walk that is not
+/// complete.
+pub const TABLE: u8 = 2;
+/// In a map's byte, besides `DATA`: an entry or walk that names the page grants write, or a pending store goes there.
+pub const WRITABLE: u8 = 4;
 
 /// Words of the tables of a machine with so many cores.
 pub const fn table_words(cores: usize) -> usize {
@@ -66,6 +76,17 @@ mod c {
             limit: u32,
             accepted: *mut u32,
         ) -> u32;
+        pub fn mips86_reach(
+            tables: *const u32,
+            ntables: usize,
+            memory: *const u8,
+            nmemory: usize,
+            group: u32,
+            map: *mut u8,
+            nmap: usize,
+            beyond: *mut u32,
+        ) -> u32;
+        pub fn mips86_apart(tables: *const u32, ntables: usize, memory: *const u8, nmemory: usize, group: u32) -> u32;
     }
 }
 
@@ -120,4 +141,43 @@ pub fn run(tables: &mut [u32], memory: &mut [u8], schedule: &[u32], limit: u32) 
         n => Stop::Refused(n - REFUSED),
     };
     Ran { accepted, stop }
+}
+
+/// Fills the map, one byte a page, with what each page is for a group of cores: the sum of `DATA`, `TABLE` and
+/// `WRITABLE`, 0 where the group does not reach it. Bit n of `group` stands for core n; its cores count in any mode,
+/// whether or not they run. Ok says whether a page beyond memory is reached; the map is filled in both cases. The error
+/// is the number of the refusal, 4, 12 or 13, which leaves the map.
+pub fn reach(tables: &[u32], memory: &[u8], group: u32, map: &mut [u8]) -> Result<bool, u32> {
+    let mut beyond = 0;
+    // SAFETY: as in `make`; `map` is the only slice that is written, and `beyond` is a local.
+    let n = unsafe {
+        c::mips86_reach(
+            tables.as_ptr(),
+            tables.len(),
+            memory.as_ptr(),
+            memory.len(),
+            group,
+            map.as_mut_ptr(),
+            map.len(),
+            &mut beyond,
+        )
+    };
+    match n {
+        0 => Ok(beyond == 1),
+        n => Err(n - REFUSED),
+    }
+}
+
+/// Is the group kept apart from the rest, the other running cores? A yes promises that the group gets the same answers
+/// and sees the same state after each of its steps, whatever the others hold and do, in lists of single steps of kinds
+/// 0 to 4, each core up to its first interrupt (`../../include/mips86.h` says it in full). The error is the number of
+/// the refusal, 4 or 13. It uses some 60 KB of stack.
+pub fn apart(tables: &[u32], memory: &[u8], group: u32) -> Result<bool, u32> {
+    // SAFETY: as in `make`; nothing is written.
+    let n = unsafe { c::mips86_apart(tables.as_ptr(), tables.len(), memory.as_ptr(), memory.len(), group) };
+    match n {
+        0 => Ok(false),
+        1 => Ok(true),
+        n => Err(n - REFUSED),
+    }
 }

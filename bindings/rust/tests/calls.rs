@@ -1,45 +1,14 @@
-//! Calls each function and checks its answer and every word and byte that it may write.
+//! Calls make, step and run and checks each answer and every word and byte that may be written.
 
+mod machine;
+
+use machine::{Machine, BLOCK, CORES, FREE, LINES, PAGES, PC, PORTS, RECORDS, REFUSALS, RUNNING, SPR};
 use mips86::{make, run, step, table_words, Answer, Ran, Stop, PAGE_BYTES};
-
-const CORES: usize = 0;
-const PAGES: usize = 1;
-const REFUSALS: usize = 2;
-const LINES: usize = 3;
-const BLOCK: usize = 32;
-const SPR: usize = 32;
-const PC: usize = 64;
-const RUNNING: usize = 67;
-const FREE: usize = 70;
-const PORTS: usize = 72;
-const RECORDS: usize = 128;
 
 const LINE_3: [u32; 6] = [11, 3, 1, 0, 0, 0];
 const DRAIN: [u32; 6] = [4, 0, 0, 0, 0, 0];
 const NOTHING: [u32; 6] = [15, 0, 0, 0, 0, 0];
 const CORE_0: [u32; 6] = [0, 0, 0, 0, 0, 0];
-
-#[derive(Clone, Debug, PartialEq, Eq)]
-struct Machine {
-    tables: Vec<u32>,
-    memory: Vec<u8>,
-}
-
-impl Machine {
-    fn new(cores: usize, pages: usize) -> Machine {
-        let mut m = Machine { tables: vec![0xEE; table_words(cores)], memory: vec![0; pages * PAGE_BYTES] };
-        assert_eq!(make(&mut m.tables, &m.memory, cores as u32), Ok(()));
-        m
-    }
-
-    fn step(&mut self, s: &[u32]) -> Answer {
-        step(&mut self.tables, &mut self.memory, s)
-    }
-
-    fn run(&mut self, s: &[u32], limit: u32) -> Ran {
-        run(&mut self.tables, &mut self.memory, s, limit)
-    }
-}
 
 #[test]
 fn make_fills_the_tables() {

@@ -8,8 +8,6 @@ use native.Mathlib.Omega.{arith}
 use borrow.Author.Tests.{ltb-true}
 use Rattle.word.proofs.Words.{Words}
 use Rattle.isa.proofs.Words.{effect-words, jisr-words, rfe-words}
-use Rattle.records.specs.declared.Store.{Store}
-use Rattle.records.specs.Contents.{storeSound}
 use Rattle.records.proofs.Bounds.{put-words, take-words, add-words, drop-words, store-words}
 use Rattle.records.proofs.Counts.{and-left, and-right}
 use Rattle.records.proofs.Facts.{walk-facts}
@@ -38,11 +36,11 @@ CoreWords (Interrupt w R ca k) = (ca < 2 ^ 32) × (k < 2 ^ 32)
 CoreWords Return = Unit {0}
 CoreWords (Execute i w R) = Unit {0}
 
--- the first word of a walk; that it is sound bounds the second
-abbrev pub WalkWords : WalkChange → Type 0
-WalkWords WalkChange.Nothing = Unit {0}
-WalkWords (Add w) = w .first < 2 ^ 32
-WalkWords (Drop f) = Unit {0}
+-- the first word of a walk that is added; that it is sound bounds the second
+abbrev pub AddWords : WalkChange → Type 0
+AddWords WalkChange.Nothing = Unit {0}
+AddWords (Add w) = w .first < 2 ^ 32
+AddWords (Drop f) = Unit {0}
 
 -- the value for a port
 abbrev pub PortWords : Write → Type 0
@@ -53,36 +51,36 @@ PortWords (IoPort a v) = v < 2 ^ 32
 
 pub record PlanWords (p : Plan) : Type 0 where
   pub in-core : CoreWords (p .core)
-  pub in-walks : WalkWords (p .walks)
+  pub in-walks : AddWords (p .walks)
   pub in-port : PortWords (p .write)
 
 -- ---- what it leaves
 
-core-after : (c : CoreChange) (b : List ℕ) → CoreWords c → Words b → Words (coreAfter c b)
+core-words : (c : CoreChange) (b : List ℕ) → CoreWords c → Words b → Words (coreAfter c b)
 unfolding coreAfter
-core-after CoreChange.Nothing b h w = w
-core-after (Interrupt x R ca k) b h w = kept-jisr _ .words (with-words b _ w (jisr-words (registersOf b) x R ca k (h .0) (h .1) (block-registers b w)))
-core-after Return b h w = kept-rfe _ .words (with-words b _ w (rfe-words (registersOf b) (block-registers b w)))
-core-after (Execute i x R) b h w = with-words b _ w (effect-words i (registersOf b) x (block-registers b w) R)
+core-words CoreChange.Nothing b h w = w
+core-words (Interrupt x R ca k) b h w = kept-jisr _ .words (with-words b _ w (jisr-words (registersOf b) x R ca k (h .0) (h .1) (block-registers b w)))
+core-words Return b h w = kept-rfe _ .words (with-words b _ w (rfe-words (registersOf b) (block-registers b w)))
+core-words (Execute i x R) b h w = with-words b _ w (effect-words i (registersOf b) x (block-registers b w) R)
 
-buffer-after : (n : ℕ) (c : BufferChange) (b : List ℕ) → n ≤ 2 ^ 32 → storeBrought n c ≡ true → Words b → Words (bufferAfter c b)
+buffer-words : (n : ℕ) (c : BufferChange) (b : List ℕ) → n ≤ 2 ^ 32 → storeBrought n c ≡ true → Words b → Words (bufferAfter c b)
 unfolding bufferAfter
-buffer-after n BufferChange.Nothing b l e w = w
-buffer-after n (Put s) b l e w = put-words b w s (store-words n s e l)
-buffer-after n Take b l e w = take-words b w
+buffer-words n BufferChange.Nothing b l e w = w
+buffer-words n (Put s) b l e w = put-words b w s (store-words n s e l)
+buffer-words n Take b l e w = take-words b w
 
-walks-after : (c : WalkChange) (b : List ℕ) → walkBrought c ≡ true → WalkWords c → Words b → Words (walksAfter c b)
+walks-words : (c : WalkChange) (b : List ℕ) → walkBrought c ≡ true → AddWords c → Words b → Words (walksAfter c b)
 unfolding walksAfter
-walks-after WalkChange.Nothing b e h w = w
-walks-after (Add v) b e h w = add-words b w v (h, omega (arith, walk-facts v e .base))
-walks-after (Drop f) b e h w = drop-words b w f
+walks-words WalkChange.Nothing b e h w = w
+walks-words (Add v) b e h w = add-words b w v (h, omega (arith, walk-facts v e .base))
+walks-words (Drop f) b e h w = drop-words b w f
 
-port-after : (x : Write) (b : List ℕ) → portReady x ≡ true → PortWords x → Words b → Words (portAfter x b)
+port-words : (x : Write) (b : List ℕ) → portReady x ≡ true → PortWords x → Words b → Words (portAfter x b)
 unfolding portAfter portReady
-port-after Write.Nothing b r h w = w
-port-after (Memory a d v) b r h w = w
-port-after (LocalPort a v) b r h w = kept-written b a v (ltb-true a 128 r) h .words w
-port-after (IoPort a v) b r h w = w
+port-words Write.Nothing b r h w = w
+port-words (Memory a d v) b r h w = w
+port-words (LocalPort a v) b r h w = kept-written b a v (ltb-true a 128 r) h .words w
+port-words (IoPort a v) b r h w = w
 
 pub header-words : (x : Write) (t : List ℕ) → PortWords x → Words t → Words (headerAfter x t)
 unfolding headerAfter
@@ -91,11 +89,11 @@ header-words (Memory a d v) t h w = w
 header-words (LocalPort a v) t h w = w
 header-words (IoPort a v) t h w = ioapic.kept-written t a v h .words w
 
--- beside a memory of n bytes
-pub block-words : (n : ℕ) (p : Plan) (b : List ℕ) → n ≤ 2 ^ 32 → planSound n p ≡ true → portReady (p .write) ≡ true → PlanWords p → Words b → Words (blockAfter p b)
+-- the whole block, beside a memory of n bytes
+pub after-words : (n : ℕ) (p : Plan) (b : List ℕ) → n ≤ 2 ^ 32 → planSound n p ≡ true → portReady (p .write) ≡ true → PlanWords p → Words b → Words (blockAfter p b)
 unfolding blockAfter planSound
-block-words n p b l e r P w =
+after-words n p b l e r P w =
     let b₁ : List ℕ = coreAfter (p .core) b in
     let b₂ : List ℕ = bufferAfter (p .buffer) b₁ in
-    let w₂ : Words b₂ = buffer-after n (p .buffer) b₁ l (and-left (storeBrought n (p .buffer)) _ e) (core-after (p .core) b (P .in-core) w) in
-    port-after (p .write) (walksAfter (p .walks) b₂) r (P .in-port) (walks-after (p .walks) b₂ (and-right (storeBrought n (p .buffer)) _ e) (P .in-walks) w₂)
+    let w₂ : Words b₂ = buffer-words n (p .buffer) b₁ l (and-left (storeBrought n (p .buffer)) _ e) (core-words (p .core) b (P .in-core) w) in
+    port-words (p .write) (walksAfter (p .walks) b₂) r (P .in-port) (walks-words (p .walks) b₂ (and-right (storeBrought n (p .buffer)) _ e) (P .in-walks) w₂)

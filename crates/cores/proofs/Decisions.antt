@@ -47,7 +47,7 @@ use Rattle.cores.specs.Walks.{adding, planned}
 use Rattle.cores.specs.Buffer.{leavesTo, onOldest, bufferStep}
 use Rattle.cores.specs.Commit.{bufferReady, walksReady, portReady, ready, fits}
 use Rattle.cores.proofs.Sounds.{storeBrought, walkBrought, planSound}
-use Rattle.cores.proofs.Bounds.{CoreWords, WalkWords, PortWords, PlanWords}
+use Rattle.cores.proofs.Bounds.{CoreWords, AddWords, PortWords, PlanWords}
 
 -- bytes of memory are written at a multiple of their number
 unfoldable pub alignedWrite : Write → Bool
@@ -56,7 +56,7 @@ alignedWrite (Memory a d v) = aligned a d
 alignedWrite (LocalPort a v) = true
 alignedWrite (IoPort a v) = true
 
--- a plan that may be done on the block b beside a memory of n bytes, that does nothing where it is refused, and brings words to words
+-- a plan that may be done on the block b beside a memory of n bytes, that does nothing where it is refused, and brings words where b has words
 pub record MayBeDone (n : ℕ) (b : List ℕ) (p : Plan) : Type 0 where
   pub is-ready : ready p b ≡ true
   pub is-sound : planSound n p ≡ true
@@ -74,7 +74,7 @@ pub record AllowedChanges (n : ℕ) (b : List ℕ) (c : BufferChange) (ws : Walk
   pub port-ready : portReady x ≡ true
   pub fitting : fits x n ≡ true
   pub aligning : alignedWrite x ≡ true
-  pub walk-words : Words b → WalkWords ws
+  pub walk-words : Words b → AddWords ws
   pub port-words : PortWords x
 
 -- a plan with such changes, and with none if it is refused
@@ -115,7 +115,7 @@ module _ (n : ℕ) (b : List ℕ) where
   accepted-doable a c C = record { changes = C; core-words = c; still = λ k e. absurd (true-false (sym a ∙ ap isAccepted e)) }
 
   -- a change of the walks alone
-  pub walks-change : (ws : WalkChange) → walksReady ws b ≡ true → walkBrought ws ≡ true → (Words b → WalkWords ws) → AllowedChanges n b BufferChange.Nothing ws Write.Nothing
+  pub walks-change : (ws : WalkChange) → walksReady ws b ≡ true → walkBrought ws ≡ true → (Words b → AddWords ws) → AllowedChanges n b BufferChange.Nothing ws Write.Nothing
   unfolding bufferReady portReady fits alignedWrite
   walks-change ws r s w =
       record { buffer-ready = refl; store-sound = refl; walks-ready = r; walk-sound = s; port-ready = refl; fitting = refl; aligning = refl; walk-words = w; port-words = tt }

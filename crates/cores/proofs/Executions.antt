@@ -124,8 +124,8 @@ module _ (b m : List ℕ) (whole : length m % 4 ≡ 0) (v : View) (held : v .sb 
   cause-lt : (i : Instruction) (w : ℕ) (pfls : Bool) → causes v i w pfls < 2 ^ 32
   cause-lt i w pfls = causes-lt (eventsAs i (v .core) w (isEvent (v .eev)) pfls) (sprAt (v .core) sr)
 
-  bare-lt : (mal pff : Bool) → causesWithout v mal pff < 2 ^ 32
-  bare-lt mal pff = causes-lt (eventsWithout (isEvent (v .eev)) mal pff) (sprAt (v .core) sr)
+  without-lt : (mal pff : Bool) → causesWithout v mal pff < 2 ^ 32
+  without-lt mal pff = causes-lt (eventsWithout (isEvent (v .eev)) mal pff) (sprAt (v .core) sr)
 
   load-doable : (i : Instruction) (w ca : ℕ) (x : Loaded) → ca < 2 ^ 32 → Doable (length m) b (onLoad v i w ca x)
   load-doable i w ca (Value x h) c = finished-doable i w x ca _ _ _ c (unchanged (length m) b)
@@ -215,7 +215,7 @@ module _ (b m : List ℕ) (whole : length m % 4 ≡ 0) (v : View) (held : v .sb 
     fetch-doable : (wI : Walk) (f : Verdict) → Doable (length m) b (onFetch v m wI wR f .effect)
     unfolding onFetch onFetchAddress
     fetch-doable wI Passes = word-doable (reads 4 (memoryByte m) (physical v wI (v .core .pc)))
-    fetch-doable wI Faults = faulted-doable 0 (causesWithout v false true) (v .core .pc) (bare-lt false true)
+    fetch-doable wI Faults = faulted-doable 0 (causesWithout v false true) (v .core .pc) (without-lt false true)
     fetch-doable wI Undecided = refused-doable (length m) b 7
 
     judged-doable : (wI : Walk) → Doable (length m) b (judged v m wI wR .effect)
@@ -224,7 +224,7 @@ module _ (b m : List ℕ) (whole : length m % 4 ≡ 0) (v : View) (held : v .sb 
       where
         go : (t : Bool) → Doable (length m) b ((if t then fetch v m wI wR else yield (stopped v 0 (causesWithout v true false) WalkChange.Nothing)) .effect)
         go true = fetch-doable wI (faultOf v m (fetchRequestOf (v .core)) wI)
-        go false = nothing-doable 0 (causesWithout v true false) (bare-lt true false)
+        go false = nothing-doable 0 (causesWithout v true false) (without-lt true false)
 
     step-doable : (wI : Walk) → Doable (length m) b (coreStep v m wI wR)
     unfolding coreStep

@@ -34,8 +34,7 @@ use Rattle.cores.specs.Plans.{refused}
 use Rattle.cores.specs.Commit.{coreAfter, bufferAfter, walksAfter, portAfter, blockAfter, headerAfter, tablesAfter, writtenTo, memoryAfter, fits}
 use Rattle.cores.proofs.Doing.{port-ready}
 use Rattle.cores.proofs.Sounds.{plan-shows}
-use Rattle.cores.proofs.Bounds as bounds
-use Rattle.cores.proofs.Bounds.{PlanWords, header-words}
+use Rattle.cores.proofs.Bounds.{PlanWords, after-words, header-words}
 use Rattle.cores.proofs.Decisions.{alignedWrite, MayBeDone}
 
 -- ---- the header
@@ -199,7 +198,7 @@ module _ (t m : List ℕ) (k : ℕ) (p : Plan) (e : sound t (length m) ≡ true)
       let P : PlanWords p = D .brings-words B in
       let few : length m ≤ 2 ^ 32 = omega (arith, header t (length m) e .few-pages, bytes-divide t (length m) e) in
       header-words (p .write) _ (P .in-port)
-      (withBlock-words t k (blockAfter p (block t k)) w (bounds.block-words (length m) p (block t k) few (D .is-sound) (port-ready p (block t k) (D .is-ready)) P B))
+      (withBlock-words t k (blockAfter p (block t k)) w (after-words (length m) p (block t k) few (D .is-sound) (port-ready p (block t k) (D .is-ready)) P B))
 
   -- one run of memory at most
   pub plan-memory : (memoryAfter p m ≡ m) ⊎ Run m (memoryAfter p m)

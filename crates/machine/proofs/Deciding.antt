@@ -1,22 +1,20 @@
 -- Every action that is decided on sound tables may be done.
 -- Assumes nothing.
-use mathlib.Core.Path.{_≡_, refl, sym, _∙_, ap}
-use mathlib.Core.Bool.{Bool, true, false, _&&_}
+use mathlib.Core.Path.{_≡_, refl}
+use mathlib.Core.Bool.{Bool, true, false}
 use mathlib.Core.List.{List}
-use Prim.Native.Nat.{ℕ, _+_, _*_, _%_, _^_, _<_, _≤_}
-use lib.ListN.{length, getD}
+use Prim.Native.Nat.{ℕ, _+_, _^_, _<_}
+use lib.ListN.{length}
 use lib.Dec.{ltb}
-use native.Mathlib.Omega.{arith}
 use borrow.Author.Tests.{ltb-true, lt-ltb}
-use Rattle.word.specs.Word.{if_then_else_}
 use Rattle.word.proofs.Bytes.{Bytes}
 use Rattle.word.proofs.Words.{Words}
 use Rattle.layout.specs.Layout.{spr, pto}
 use Rattle.layout.specs.Blocks.{block}
 use Rattle.records.proofs.Counts.{and-left, and-right, and-both}
 use Rattle.tables.specs.Views.{coresOf, ioregselOf, iowinOf}
-use Rattle.tables.specs.Sound.{sound, soundBlock}
-use Rattle.tables.proofs.Lift.{core-long, core-sound}
+use Rattle.tables.specs.Sound.{sound}
+use Rattle.tables.proofs.Lift.{core-sound}
 use Rattle.apic.specs.declared.vectors.Found.{Found}
 use Rattle.apic.specs.declared.vectors.Found.the-variants.{Vector, None}
 use Rattle.apic.specs.declared.active.Sending.{Sending}
@@ -26,9 +24,7 @@ use Rattle.ioapic.specs.IoApic.{maySample, mayDeliver}
 use Rattle.steps.specs.declared.Step.{Step}
 use Rattle.steps.specs.declared.Step.the-variants as kind
 use Rattle.steps.specs.Form.{stepOf}
-use Rattle.cores.specs.declared.Plan.{Plan}
-use Rattle.cores.specs.Core.{viewOf, coreStep}
-use Rattle.cores.specs.Commit.{ready, fits}
+use Rattle.cores.specs.Commit.{ready}
 use Rattle.cores.proofs.Decisions.{MayBeDone, create-plan, extend-plan, accessed-plan, drain-plan}
 use Rattle.cores.proofs.Executions.{core-plan}
 use Rattle.machine.specs.declared.action.Action.{Action}

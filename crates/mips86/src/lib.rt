@@ -1,6 +1,8 @@
-// The interface for C and Rust (include/mips86.h): make, step and run on lent tables and memory. A slice is a pointer and
+// The interface for C and Rust (include/mips86.h): make, step, run, reach and apart on lent tables and memory. A slice is a pointer and
 // a length in C, and each operation answers one number.
 use machine::run::Stop;
+use reach::Reached;
+use separation::Verdict;
 use steps::Answer;
 use tables::make::Made;
 ghost use mathlib.Core.Path.{_≡_};
@@ -10,6 +12,9 @@ ghost use Rattle.tables.specs.Make as made;
 ghost use Rattle.steps.specs.Answers.{answerNumber};
 ghost use Rattle.machine.specs.Step as one;
 ghost use Rattle.machine.specs.Run as many;
+ghost use Rattle.reach.specs.Reach.{reachOn, reachedNumber, beyondOf};
+ghost use Rattle.separation.specs.Apart.{apartOn, verdictNumber};
+ghost use Rattle.separation.specs.Separation.{machineOf, Promised};
 ghost use Rattle.mips86.specs.Numbers.{madeNumber, stopNumber};
 
 fn made_number(a: Made) -> u32
@@ -82,4 +87,63 @@ pub extern "C" fn mips86_run(
     *accepted = r.accepted;
     let stop = r.stop;
     stop_number(stop)
+}
+
+fn reached_number(a: Reached) -> u32
+    requires { ⌜ reachedNumber a < 2 ^ 32 ⌝ }
+    ensures { λ r. ⌜ r ≡ reachedNumber a ⌝ }
+{
+    match a {
+        Reached::Inside => 0,
+        Reached::Beyond => 0,
+        Reached::Refused(n) => 100 + n,
+    }
+}
+
+fn beyond_number(a: Reached) -> u32
+    ensures { λ r. ⌜ r ≡ beyondOf a ⌝ }
+{
+    match a {
+        Reached::Inside => 0,
+        Reached::Beyond => 1,
+        Reached::Refused(_) => 0,
+    }
+}
+
+fn verdict_number(a: Verdict) -> u32
+    requires { ⌜ verdictNumber a < 2 ^ 32 ⌝ }
+    ensures { λ r. ⌜ r ≡ verdictNumber a ⌝ }
+{
+    match a {
+        Verdict::No => 0,
+        Verdict::Yes => 1,
+        Verdict::Refused(n) => 100 + n,
+    }
+}
+
+// The pages that a group reaches: 0, or 100 and the number of a refusal; and whether a page beyond memory is reached.
+#[no_mangle]
+pub extern "C" fn mips86_reach(
+    tables: &[u32],
+    memory: &[u8],
+    group: u32,
+    map: &mut [u8],
+    beyond: &mut u32,
+) -> u32
+    ensures { λ r. ⌜ r ≡ reachedNumber (reachOn group (now (tables .entry)) (now (memory .entry)) (now (map .entry)) .answer) ⌝ }
+    ensures { λ _. ⌜ now (beyond .exit) ≡ beyondOf (reachOn group (now (tables .entry)) (now (memory .entry)) (now (map .entry)) .answer) ⌝ }
+    ensures { λ _. ⌜ now (map .exit) ≡ reachOn group (now (tables .entry)) (now (memory .entry)) (now (map .entry)) .map ⌝ }
+{
+    let r = reach::reach(tables, memory, group, map);
+    *beyond = beyond_number(r);
+    reached_number(r)
+}
+
+// Whether a group is apart from the rest: 0 no, 1 yes, 100 and the number of a refusal. A yes makes the promise of separation.
+#[no_mangle]
+pub extern "C" fn mips86_apart(tables: &[u32], memory: &[u8], group: u32) -> u32
+    ensures { λ r. ⌜ r ≡ verdictNumber (apartOn group (now (tables .entry)) (now (memory .entry))) ⌝ }
+    ensures { λ r. ⌜ (r ≡ 1 → Promised group (machineOf (now (tables .entry)) (now (memory .entry)))) ⌝ }
+{
+    verdict_number(separation::apart(tables, memory, group))
 }

@@ -6,14 +6,13 @@ use mathlib.Core.Bool.{Bool, true, false, _||_}
 use mathlib.Core.List.{List, [], _∷_, _++_, flatMap, append-assoc, append-nil}
 use Prim.Native.Nat.{ℕ, _+_, _-_, _*_, _/_, _%_, _^_, _<_, _≤_}
 use native.Mathlib.Omega.{arith}
-use lib.Dec.{eqb, ltb}
-use lib.ListN.{length, getD, take, drop}
+use lib.ListN.{getD, take, drop}
 use borrow.Author.Tests.{lt-ltb, le-ltb, eq-eqb, ne-eqb}
-use Rattle.word.specs.Word.{if_then_else_, isSet}
+use Rattle.word.specs.Word.{isSet}
 use Rattle.layout.specs.Layout.{recordAt}
 use Rattle.layout.specs.Blocks.{block}
 use Rattle.records.specs.Records.{chain, chainAt, all, small, levelOf, walkNumbers, storeNumbers}
-use Rattle.records.proofs.Checking.{Checking, check-start, check-low, check-low-next, chain-step, chain-zero, chain-none}
+use Rattle.records.proofs.Checking.{Checking, check-start, check-low-next, chain-step, chain-zero, chain-none}
 use Rattle.layout.proofs.Blocks.{span}
 use Rattle.tlb.specs.Walks.{baseAddress}
 use Rattle.tlb.specs.Steps.{originOf}

@@ -1,6 +1,6 @@
 -- The marks tied to specs/Reach.antt: what is marked is what is reached, and what strays is beyond memory.
 -- Assumes nothing.
-use mathlib.Core.Path.{_≡_, refl, sym, ap, ap₂, subst, _∙_}
+use mathlib.Core.Path.{_≡_, refl, sym, ap, ap₂, _∙_}
 use mathlib.Core.Bool.{Bool, true, false, _&&_, _||_, not}
 use mathlib.Core.List.{List, [], _∷_, _++_, map, flatMap}
 use Prim.Native.Nat.{ℕ, _+_, _-_, _*_, _%_, _<_, _≤_}
@@ -8,7 +8,6 @@ use native.Mathlib.Omega.{arith}
 use native.Mathlib.Decide.{ℕ-discrete, decLt}
 use lib.Dec.{eqb, ltb}
 use lib.ListN.{length, getD, replicate, length-replicate, getD-replicate, List·getD-eq-default}
-use borrow.Author.Tests.{eq-eqb, ne-eqb}
 use Rattle.word.specs.Word.{if_then_else_, isSet, flag}
 use Rattle.word.proofs.Bytes.{Bytes}
 use Rattle.layout.specs.Blocks.{block}
@@ -19,9 +18,9 @@ use Rattle.tables.proofs.Lift.{header}
 use Rattle.reach.specs.Lists.{range, has, select}
 use Rattle.reach.specs.Reach.{members, anyRights, grantsWrite, named, firstPages, secondPages, dataPages, writablePages, reach, inMemory, mapByte, mapFor}
 use Rattle.reach.specs.Marks.{Name, name, marks, strays, Marked, isMarked, isWritten, byteOf, walkName, recordName, coreNames, memberNames, rootNames, entryNames, passNames}
-use Rattle.reach.proofs.Lists.{decided, and-left, Each, each-append, each-flatMap, if-both, In, has-append, all-append, all-same, or-assoc, flatMap-below, map-same, range-in}
+use Rattle.reach.proofs.Lists.{decided, and-left, Each, each-append, each-flatMap, if-both, has-append, all-append, all-same, or-assoc, or-turn, or-none, flatMap-below, map-same, range-in}
 use Rattle.reach.proofs.Marking.{marks-long}
-use Rattle.reach.proofs.Sets.{Proper, ofKind, written, pagesWith, with-none, with-cons, with-append, marks-marked, marks-written, or-none}
+use Rattle.reach.proofs.Sets.{Proper, ofKind, written, pagesWith, with-none, with-cons, with-append, marks-marked, marks-written}
 use Rattle.reach.proofs.Passes.{pass-proper, pass-other}
 use Rattle.reach.proofs.Names.{root-first, root-second, root-data, root-written, asks-any, asks-write, tables-pages, pass-pages}
 use Rattle.reach.proofs.Low.{Words, named-beyond, first-low, second-low}
@@ -122,12 +121,6 @@ strays-sets n (y ∷ l) h =
     ∙ ap₂ _||_ (sym (outside-with n (ofKind 0) y l)) (ap₂ _||_ (sym (outside-with n (ofKind 1) y l)) (sym (outside-with n (ofKind 2) y l)))
 
 -- ---- the three states of the marks
-
-or-turn : (a b : Bool) → a || b ≡ b || a
-or-turn true true = refl
-or-turn true false = refl
-or-turn false true = refl
-or-turn false false = refl
 
 -- what a pass leaves of the other sets
 module _ (n : ℕ) (few : n ≤ 4096) (s : List ℕ) (l : List Name) (long : length s ≡ 24576) (proper : Each Proper l) (x : ℕ) (low : x < n) where
@@ -312,14 +305,10 @@ module _ (t m : List ℕ) (g : ℕ) (e : sound t (length m) ≡ true) (words : W
       ∙ ap₂ _||_ (ap (outside n) (sym (root-first g t (coresOf t))))
       (outside-append n (flatMap (named anyRights m) (firstPages cs t)) _ ∙ ap (λ (l : List ℕ). outside n (flatMap (named anyRights m) (firstPages cs t)) || outside n l) (sym (root-second g t (coresOf t))))
 
-  or-nothing : (a : Bool) → a || false ≡ a
-  or-nothing true = refl
-  or-nothing false = refl
-
   strays₁ : strays n E₁ ≡ outside n (flatMap (named anyRights m) (firstPages cs t))
   strays₁ =
       strays-sets n E₁ proper₁
-      ∙ rw (pass-other (ofKind 0) n 0 m s₁ (λ p w. refl), pass-other (ofKind 2) n 0 m s₁ (λ p w. refl), outside-none n) (or-nothing (outside n (pagesWith (ofKind 1) E₁)))
+      ∙ rw (pass-other (ofKind 0) n 0 m s₁ (λ p w. refl), pass-other (ofKind 2) n 0 m s₁ (λ p w. refl), outside-none n) (sym (or-none (outside n (pagesWith (ofKind 1) E₁)) false refl))
       ∙ outside-same n (pagesWith (ofKind 1) E₁) (flatMap (named anyRights m) (firstPages cs t)) tables₁
 
   strays₂ : strays n E₂ ≡ outside n (flatMap (named anyRights m) (secondPages cs t m))

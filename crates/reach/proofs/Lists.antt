@@ -206,6 +206,24 @@ pub or-assoc : (a b c : Bool) → (a || b) || c ≡ a || (b || c)
 or-assoc true b c = refl
 or-assoc false b c = refl
 
+pub or-turn : (a b : Bool) → a || b ≡ b || a
+or-turn true true = refl
+or-turn true false = refl
+or-turn false true = refl
+or-turn false false = refl
+
+pub or-none : (a b : Bool) → b ≡ false → a ≡ a || b
+or-none true b e = refl
+or-none false b e = sym e
+
+pub and-assoc : (a b c : Bool) → a && (b && c) ≡ (a && b) && c
+and-assoc true b c = refl
+and-assoc false b c = refl
+
+pub and-none : (a b : Bool) → b ≡ false → a && b ≡ false
+and-none true b e = e
+and-none false b e = refl
+
 -- two truth values that follow from each other
 pub both-ways : (a b : Bool) → (a ≡ true → b ≡ true) → (b ≡ true → a ≡ true) → a ≡ b
 both-ways true b f g = sym (f refl)
@@ -240,10 +258,6 @@ pub all-append : {A : Type 0} (t : A → Bool) (l r : List A) → all t (l ++ r)
 unfolding all
 all-append t [] r = refl
 all-append t (x ∷ l) r = ap (λ (b : Bool). t x && b) (all-append t l r) ∙ and-assoc (t x) (all t l) (all t r)
-  where
-    and-assoc : (a b c : Bool) → a && (b && c) ≡ (a && b) && c
-    and-assoc true b c = refl
-    and-assoc false b c = refl
 
 pub in-all : (t : ℕ → Bool) (l : List ℕ) → ((p : ℕ) → In p l → t p ≡ true) → all t l ≡ true
 unfolding all

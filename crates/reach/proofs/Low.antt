@@ -1,9 +1,9 @@
 -- The pages that sound tables and bytes name have 20 bits, and a table beyond memory names nothing.
 -- Assumes nothing.
-use mathlib.Core.Path.{_≡_, refl, sym, ap, subst, _∙_}
+use mathlib.Core.Path.{_≡_, refl, ap, _∙_}
 use mathlib.Core.Logic.{⊎-elim}
 use mathlib.Core.Bool.{Bool, true, false, _&&_}
-use mathlib.Core.List.{List, [], _∷_, map, flatMap}
+use mathlib.Core.List.{List, [], _∷_, flatMap}
 use Prim.Native.Nat.{ℕ, _+_, _*_, _^_, _<_, _≤_}
 use native.Mathlib.Omega.{arith}
 use lib.Dec.{eqb, leb}
@@ -19,11 +19,10 @@ use Rattle.records.specs.Records.{all, linked, walks}
 use Rattle.records.specs.Contents.{walkSound}
 use Rattle.records.proofs.Contents.{parts-of}
 use Rattle.records.proofs.Facts.{walk-facts}
-use Rattle.tables.specs.Views.{coresOf, pagesOf}
+use Rattle.tables.specs.Views.{coresOf}
 use Rattle.tables.specs.Sound.{sound}
 use Rattle.tables.proofs.Parts.{records-of}
 use Rattle.tables.proofs.Lift.{core-sound}
-use Rattle.tlb.specs.declared.Entry.{Entry}
 use Rattle.tlb.specs.declared.Entry.the-variants.{Word, Missing}
 use Rattle.tlb.specs.Walks.{walkLevel, entryAt, pteaAt, pteP, pteR, pteBa}
 use Rattle.tlb.specs.Steps.{originOf}

@@ -1,27 +1,25 @@
 -- The pages of the names that the code marks are the lists of specs/Reach.antt.
 -- Assumes nothing.
-use mathlib.Core.Path.{_≡_, refl, sym, ap, ap₂, _∙_}
+use mathlib.Core.Path.{_≡_, refl, ap, ap₂, _∙_}
 use mathlib.Core.Bool.{Bool, true, false, _&&_}
 use mathlib.Core.List.{List, [], _∷_, _++_, map, flatMap, append-nil}
 use Prim.Native.Nat.{ℕ, _+_, _-_, _/_, _%_, _^_, _<_, _≤_}
 use native.Mathlib.Omega.{arith}
 use lib.Dec.{eqb, ltb}
-use lib.ListN.{getD}
 use borrow.Author.Tests.{eq-eqb, eqb-true, lt-ltb, ltb-true}
 use Rattle.word.specs.Word.{if_then_else_, isSet}
-use Rattle.layout.specs.Layout.{recordAt}
 use Rattle.layout.specs.Blocks.{block}
 use Rattle.records.specs.declared.Walk.{Walk}
 use Rattle.records.specs.declared.Store.{Store}
 use Rattle.records.specs.Records.{levelOf, walkIn, storeIn, walks, stores, walkNumbers, storeNumbers}
 use Rattle.tlb.specs.declared.Entry.{Entry}
 use Rattle.tlb.specs.declared.Entry.the-variants.{Word, Missing}
-use Rattle.tlb.specs.Walks.{walkLevel, walkR, walkBa, complete, baseAddress, entryAt, pteaAt, pteP, pteR, pteBa}
+use Rattle.tlb.specs.Walks.{walkLevel, walkR, complete, baseAddress, entryAt, pteaAt, pteP, pteR, pteBa}
 use Rattle.tlb.specs.Steps.{originOf}
 use Rattle.reach.specs.Lists.{range, has, select}
-use Rattle.reach.specs.Reach.{members, anyRights, grantsWrite, basesOf, storePages, namedBy, named, over, firstPages, secondPages, dataPages, writablePages}
+use Rattle.reach.specs.Reach.{members, anyRights, grantsWrite, basesOf, storePages, namedBy, named, over, firstPages}
 use Rattle.reach.specs.Marks.{Name, name, isMarked, entryName, entryNames, markedNames, passNames, walkName, recordName, coreNames, memberNames, rootNames}
-use Rattle.reach.proofs.Lists.{In, and-left, and-right, and-both, both-ways, flatMap-ext, flatMap-none, flatMap-select, flatMap-map, flatMap-each, select-same, range-in}
+use Rattle.reach.proofs.Lists.{and-assoc, and-left, and-right, and-both, both-ways, flatMap-ext, flatMap-none, flatMap-select, flatMap-map, flatMap-each, select-same, range-in}
 use Rattle.reach.proofs.Sets.{ofKind, written, pagesWith, with-none, with-cons, with-append, with-flatMap}
 
 -- a name alone
@@ -118,10 +116,6 @@ granted : (w : Walk) → ltb (walkLevel w) 3 && written 2 (name (2 - walkLevel w
 granted w =
     let e : w .first % 2 ≡ w .first % 2 ^ 3 / 2 ^ 0 % 2 = omega arith in
     and-assoc (ltb (walkLevel w) 3) (eqb (2 - walkLevel w) 2) (eqb (w .first % 2) 1) ∙ ap₂ _&&_ (level-is (walkLevel w) 2 (omega arith)) (ap (λ (z : ℕ). eqb z 1) e)
-  where
-    and-assoc : (a b c : Bool) → a && (b && c) ≡ (a && b) && c
-    and-assoc true b c = refl
-    and-assoc false b c = refl
 
 core-written : (b : List ℕ) → pagesWith (written 2) (coreNames b) ≡ basesOf (λ w. complete w && grantsWrite (walkR w)) (walks b) ++ storePages (stores b)
 core-written b =

@@ -1,13 +1,11 @@
 -- What the entries of tables name, and a pass over the tables of a set.
 -- Assumes nothing.
 use mathlib.Core.Path.{_≡_, refl, sym, ap, ap₂, subst, _∙_}
-use mathlib.Core.Logic.{_≢_}
 use mathlib.Core.Bool.{Bool, true, false, _||_}
 use mathlib.Core.List.{List, [], _∷_, _++_, map, flatMap, map-append}
-use Prim.Native.Nat.{ℕ, zero, suc, _+_, _*_, _/_, _%_, _<_, _≤_}
+use Prim.Native.Nat.{ℕ, _+_, _*_, _/_, _%_, _<_, _≤_}
 use native.Mathlib.Numerals.{add-one}
 use native.Mathlib.Omega.{arith}
-use lib.Dec.{eqb}
 use lib.ListN.{length, set, take, length-set}
 use lib.Seq.{take-all, take-suc-set}
 use borrow.Author.Tests.{ne-eqb}
@@ -16,10 +14,10 @@ use Rattle.tlb.specs.declared.Entry.{Entry}
 use Rattle.tlb.specs.declared.Entry.the-variants.{Word, Missing}
 use Rattle.tlb.specs.Walks.{entryAt, pteaAt, pteP, pteBa}
 use Rattle.reach.specs.Lists.{range, has}
-use Rattle.reach.specs.Marks.{Name, name, marks, strays, Marked, isMarked, isWritten, byteOf, entryName, entryNames, markedNames, passNames}
-use Rattle.reach.proofs.Lists.{Each, or-none-left, if-both, flatMap-none, each-flatMap}
-use Rattle.reach.proofs.Marking.{marked-none, marked-long, namesTo, loop-next}
-use Rattle.reach.proofs.Sets.{Proper, ofKind, pagesWith, with-none, with-cons, with-flatMap, marks-marked, or-none}
+use Rattle.reach.specs.Marks.{Name, name, marks, Marked, isMarked, isWritten, byteOf, entryName, entryNames, markedNames, passNames}
+use Rattle.reach.proofs.Lists.{or-none, Each, if-both, flatMap-none, each-flatMap}
+use Rattle.reach.proofs.Marking.{marked-none, namesTo, loop-next}
+use Rattle.reach.proofs.Sets.{Proper, ofKind, pagesWith, with-none, with-cons, with-flatMap, marks-marked}
 
 -- ---- entries
 

@@ -1,8 +1,8 @@
 -- Marks as sets: a page is marked where a name of its set is, or where it was marked before.
 -- Assumes nothing.
-use mathlib.Core.Path.{_≡_, refl, sym, ap, ap₂, _∙_}
+use mathlib.Core.Path.{_≡_, refl, sym, ap, _∙_}
 use mathlib.Core.Logic.{⊎-elim}
-use mathlib.Core.Bool.{Bool, true, false, _&&_, _||_, false≢true}
+use mathlib.Core.Bool.{Bool, true, false, _&&_, _||_}
 use mathlib.Core.List.{List, [], _∷_, _++_, map, flatMap}
 use Prim.Native.Nat.{ℕ, _+_, _*_, _<_, _≤_}
 use native.Mathlib.Omega.{arith}
@@ -14,7 +14,7 @@ use borrow.Author.Tests.{eq-eqb, ne-eqb, eqb-true, ltb-true, ltb-false}
 use Rattle.word.specs.Word.{if_then_else_}
 use Rattle.reach.specs.Lists.{has, select}
 use Rattle.reach.specs.Marks.{Name, place, mark, marks, isMarked, isWritten}
-use Rattle.reach.proofs.Lists.{tested, decided, clash, and-left, and-right, and-both, or-cases, or-left, or-right, or-assoc, both-ways, Each}
+use Rattle.reach.proofs.Lists.{tested, decided, and-left, and-right, and-both, or-cases, or-left, or-right, or-assoc, or-turn, or-none, and-none, both-ways, Each}
 use Rattle.reach.proofs.Marking.{mark-long}
 
 -- ---- the pages of the names that pass a test
@@ -110,20 +110,6 @@ shuffle false true false false = refl
 shuffle false false true b = refl
 shuffle false false false true = refl
 shuffle false false false false = refl
-
-or-turn : (a b : Bool) → a || b ≡ b || a
-or-turn true true = refl
-or-turn true false = refl
-or-turn false true = refl
-or-turn false false = refl
-
-pub or-none : (a b : Bool) → b ≡ false → a ≡ a || b
-or-none true b e = refl
-or-none false b e = sym e
-
-and-none : (a b : Bool) → b ≡ false → a && b ≡ false
-and-none true b e = e
-and-none false b e = refl
 
 module _ (n k x : ℕ) (few : n ≤ 4096) (low : x < n) where
   mark-marked : (s : List ℕ) (y : Name) → length s ≡ 24576 → Proper y → isMarked (mark n s y) k x ≡ isMarked s k x || (ofKind k y && eqb x (y .page))

@@ -4,7 +4,7 @@
 use mathlib.Core.Path.{_≡_}
 use mathlib.Core.Bool.{Bool, true, false, _||_, not}
 use mathlib.Core.List.{List, [], _∷_, _++_, flatMap}
-use Prim.Native.Nat.{ℕ, _+_, _-_, _*_, _/_, _%_, _^_}
+use Prim.Native.Nat.{ℕ, _+_, _-_, _*_, _/_, _%_}
 use lib.Dec.{eqb, ltb}
 use lib.ListN.{getD, set}
 use Rattle.word.specs.Word.{if_then_else_, flag, isSet}
@@ -50,7 +50,7 @@ pub record Marked (n : ℕ) (s e : List ℕ) (r : Bool) (l : List Name) : Type 0
   pub left : e ≡ marks n s l
   pub beyond : r ≡ strays n l
 
--- page x is in set k; and with the write right
+-- page x is in set k with the write right; with or without it
 abbrev pub isWritten : List ℕ → ℕ → ℕ → Bool
 isWritten s k x = eqb (getD s (8192 * k + 4096 + x) 0) 1
 

@@ -124,13 +124,12 @@ reachOn g t m r =
       map = mapFor (members g (coresOf t)) t m;
     }
 
--- 01's number for each answer, 0 where the map is filled
-abbrev pub numberOf : Reached → ℕ
-numberOf Inside = 0
-numberOf Beyond = 0
-numberOf (Refused n) = n
+-- the number for each answer: 0 the map is filled, 100 and 01's number of a refusal; and 1 where a page beyond memory is reached
+abbrev pub reachedNumber : Reached → ℕ
+reachedNumber Inside = 0
+reachedNumber Beyond = 0
+reachedNumber (Refused n) = 100 + n
 
--- 1 where a page beyond memory is reached
 abbrev pub beyondOf : Reached → ℕ
 beyondOf Inside = 0
 beyondOf Beyond = 1

@@ -19,7 +19,7 @@ pub enum Reached {
     Refused(u32),
 }
 
-// Fills the map for the cores of a group on sound tables; whether a page beyond memory is reached.
+// Fills the map for the cores of a group on sound tables; whether a page beyond memory is reached. An empty group reaches nothing.
 pub fn fill(t: &[u32], m: &[u8], group: u32, map: &mut [u8]) -> bool
     requires { ⌜ sound (now t) (length (now m)) ≡ true ⌝ }
     requires { ⌜ length (now map) ≡ pagesOf (now t) ⌝ }
@@ -37,7 +37,7 @@ pub fn fill(t: &[u32], m: &[u8], group: u32, map: &mut [u8]) -> bool
 }
 
 // Whether a number stands for a group of cores.
-fn is_group(group: u32, cores: u32) -> bool
+pub fn is_group(group: u32, cores: u32) -> bool
     requires { ⌜ cores ≤ 4 ⌝ }
     ensures { λ r. ⌜ r ≡ x.isGroup group cores ⌝ }
 {

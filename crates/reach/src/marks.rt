@@ -1,15 +1,16 @@
-// Sets of pages as marks in one array of bytes, and the table pages that are read into it (specs/Marks.antt).
+// Three sets of pages as marks in one array of bytes, 8,192 a set: first-level tables, second-level tables, data (specs/Marks.antt).
+// A mark is a plain store of 1, so that a table page is read once, entry by entry.
 ghost use mathlib.Core.Path.{_≡_};
 ghost use mathlib.Core.List.{[], _∷_};
 ghost use mathlib.Core.List as lists;
-ghost use Rattle.tlb.specs.declared.Entry.{Entry};
 ghost use Prim.Native.Nat.{_+_, _*_, _<_, _≤_};
 ghost use lib.ListN.{length};
 ghost use Rattle.word.specs.Word.{flag};
+ghost use Rattle.tlb.specs.declared.Entry.{Entry};
 ghost use Rattle.reach.specs.Lists.{range};
 ghost use Rattle.reach.specs.Marks as x;
 
-// Marks page p, with the write right where w is 1, in a set; whether it is beyond memory.
+// Marks page p in a set, with the write right where w is 1, unless it is beyond memory; whether it is.
 pub(crate) fn mark(s: &mut [u8], pages: u32, kind: u32, p: u32, w: u32) -> bool
     requires { ⌜ (length (now s) ≡ 24576) × (pages ≤ 4096) × (kind < 3) × (w < 2) ⌝ }
     ensures { λ r. ⌜ x.Marked pages (now (s .entry)) (now (s .exit)) r (x.name kind p w ∷ []) ⌝ }

@@ -57,6 +57,7 @@ StoreWords s = (s .address < 2 ^ 32) × (s .value < 2 ^ 32) × (s .width < 2 ^ 3
 abbrev pub WalkWords : Walk → Type 0
 WalkWords w = (w .first < 2 ^ 32) × (w .second < 2 ^ 32)
 
+-- a test of the first
 abbrev isWord : Walk → Bool
 isWord w = ltb (w .first) (2 ^ 32)
 

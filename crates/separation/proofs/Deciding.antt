@@ -9,22 +9,25 @@ use native.Mathlib.Numerals.{add-one}
 use native.Mathlib.Omega.{arith}
 use native.Mathlib.Decide.{ℕ-discrete}
 use mir.Val.{boolByte}
-use lib.ListN.{length, getD}
+use lib.ListN.{length, getD, take, replicate, length-replicate}
+use lib.Seq.{length-take-le}
 use lib.Dec.{eqb, ltb}
-use borrow.Author.Tests.{ltb-true, ltb-false, lt-ltb}
+use borrow.Author.Tests.{not-true, not-false}
 use Rattle.word.specs.Word.{isSet, bit, flag, if_then_else_}
 use Rattle.layout.specs.Blocks.{block}
 use Rattle.records.specs.Records.{all}
-use Rattle.tables.specs.Views.{coresOf}
+use Rattle.tables.specs.Views.{coresOf, pagesOf}
+use Rattle.tables.specs.Sound.{sound}
 use Rattle.tlb.specs.Steps.{userMode, runs}
 use Rattle.apic.specs.Vectors.{withBit}
 use Rattle.apic.proofs.Bits.{bit-same, bit-other}
 use Rattle.reach.specs.Lists.{range, has, select}
-use Rattle.reach.specs.Reach.{Pages, members, tablePages, reached, inMemory, mapByte}
+use Rattle.reach.specs.Reach.{Pages, isGroup, members, tablePages, reached, reach, inMemory, mapByte, mapFor}
 use Rattle.reach.proofs.Lists.{tested, decided, clash, and-left, and-right, and-both, or-cases, In, in-left, in-right, in-append, in-range, range-in, all-in, select-same, select-append}
-use Rattle.separation.specs.Apart.{running, rest, runsAsUser, disjoint, closed, pagesApart}
+use Rattle.separation.specs.Apart.{running, rest, runsAsUser, disjoint, closed, pagesApart, apart, apartOn}
+use Rattle.separation.specs.declared.Verdict.the-variants.{Yes, No, Refused}
 use Rattle.separation.specs.Sides.{passes, both, pageApart}
-use Rattle.separation.proofs.Mapped.{marked-is, has-append, byte-table, byte-writable, reached-low}
+use Rattle.separation.proofs.Mapped.{marked-is, byte-in, has-append, byte-table, byte-writable, reached-low}
 
 -- ---- tests of all
 
@@ -175,7 +178,7 @@ users-are g t =
 -- ---- pages
 
 not-twice : (a b : Bool) → not (a && b) ≡ true → a ≡ true → b ≡ true → ⊥
-not-twice a b e p q = clash (a && b) (and-both a b p q) (borrow.Author.Tests.not-true (a && b) e)
+not-twice a b e p q = clash (a && b) (and-both a b p q) (not-true (a && b) e)
 
 -- lists of numbers below n have none in common
 disjoint-below : (n : ℕ) (l r : List ℕ) → ((x : ℕ) → In x l → x < n) → disjoint l r ≡ all (λ x. not (has x l && has x r)) (range n)
@@ -183,7 +186,7 @@ unfolding disjoint
 disjoint-below n l r low =
     both-ways (all (λ x. not (has x r)) l) (all (λ x. not (has x l && has x r)) (range n))
     (λ e. in-all (λ x. not (has x l && has x r)) (range n) (λ x h. tested (has x l && has x r)
-    (λ q. absurd (clash (has x r) (and-right (has x l) _ q) (borrow.Author.Tests.not-true (has x r) (all-in (λ y. not (has y r)) l x e (and-left (has x l) _ q)))))
+    (λ q. absurd (clash (has x r) (and-right (has x l) _ q) (not-true (has x r) (all-in (λ y. not (has y r)) l x e (and-left (has x l) _ q)))))
     (λ q. ap not q)))
     (λ e. in-all (λ x. not (has x r)) l (λ x h. tested (has x r)
     (λ q. absurd (not-twice (has x l) (has x r) (all-in (λ y. not (has y l && has y r)) (range n) x e (in-range n x (low x h))) h q))
@@ -253,3 +256,60 @@ rest-beyond n S T e = ap (λ (a : Bool). (inMemory S n && a) && ((closed S && cl
     none : (a : Bool) → (a && false) && ((closed S && closed T) && disjoint (reached S) (T .writables ++ tablePages T)) ≡ false
     none true = refl
     none false = refl
+
+-- ---- what the two fillings answer and leave
+
+module _ (t m : List ℕ) (g : ℕ) where
+  abbrev S : Pages
+  S = reach (members g (coresOf t)) t m
+
+  abbrev T : Pages
+  T = reach (rest g t) t m
+
+  pub group-fails : (a : Bool) → a ≡ not (inMemory S (pagesOf t)) → a ≡ true → false ≡ pagesApart (pagesOf t) S T
+  group-fails a e h = sym (group-beyond (pagesOf t) S T (not-true (inMemory S (pagesOf t)) (sym e ∙ h)))
+
+  module _ (r : ℕ) (o : members r (coresOf t) ≡ rest g t) where
+    pub rest-fails : (b : Bool) → b ≡ not (inMemory (reach (members r (coresOf t)) t m) (pagesOf t)) → b ≡ true → false ≡ pagesApart (pagesOf t) S T
+    rest-fails b e h =
+        sym (rest-beyond (pagesOf t) S T
+        (ap (λ (cs : List ℕ). inMemory (reach cs t m) (pagesOf t)) (sym o) ∙ not-true (inMemory (reach (members r (coresOf t)) t m) (pagesOf t)) (sym e ∙ h)))
+
+    pub maps-decide : (a b c : Bool) (l k : List ℕ)
+        → a ≡ not (inMemory S (pagesOf t)) → a ≡ false → b ≡ not (inMemory (reach (members r (coresOf t)) t m) (pagesOf t)) → b ≡ false
+        → l ≡ mapFor (members g (coresOf t)) t m → k ≡ mapFor (members r (coresOf t)) t m
+        → c ≡ all (λ i. pageApart (getD l i 0) (getD k i 0)) (range (pagesOf t)) → c ≡ pagesApart (pagesOf t) S T
+    maps-decide a b c l k p p′ q q′ u v w =
+        let inner : inMemory S (pagesOf t) ≡ true = not-false (inMemory S (pagesOf t)) (sym p ∙ p′) in
+        let outer : inMemory T (pagesOf t) ≡ true
+        = ap (λ (cs : List ℕ). inMemory (reach cs t m) (pagesOf t)) (sym o) ∙ not-false (inMemory (reach (members r (coresOf t)) t m) (pagesOf t)) (sym q ∙ q′) in
+        w
+        ∙ pages-decide (pagesOf t) S T l k inner outer
+        (λ i h. ap (λ (x : List ℕ). getD x i 0) u ∙ byte-in (members g (coresOf t)) t m inner i h)
+        (λ i h. ap (λ (x : List ℕ). getD x i 0) (v ∙ ap (λ (cs : List ℕ). mapFor cs t m) o) ∙ byte-in (rest g t) t m outer i h)
+
+-- an array of 4,096 bytes has room for a map
+pub room : (n : ℕ) → n ≤ 4096 → length {A = ℕ} (take n (replicate 4096 0)) ≡ n
+room n h = length-take-le n (replicate 4096 0) (omega (arith, length-replicate {A = ℕ} 4096 0))
+
+-- ---- the verdict
+
+module _ (t m : List ℕ) (g : ℕ) where
+  pub says-4 : sound t (length m) ≡ false → Refused 4 ≡ apartOn g t m
+  unfolding apartOn
+  says-4 e = rw e
+
+  pub says-13 : sound t (length m) ≡ true → isGroup g (coresOf t) ≡ false → Refused 13 ≡ apartOn g t m
+  unfolding apartOn
+  says-13 e f = rw (e, f)
+
+  module _ (e : sound t (length m) ≡ true) (f : isGroup g (coresOf t) ≡ true) where
+    says : (b : Bool) → apart g t m ≡ b → (if b then Yes else No) ≡ apartOn g t m
+    unfolding apartOn
+    says b h = rw (e, f, h)
+
+    pub says-mode : all (passes g t) (range (coresOf t)) ≡ false → No ≡ apartOn g t m
+    says-mode h = says false (unfold apart in ap (λ (b : Bool). b && pagesApart (pagesOf t) (S t m g) (T t m g)) (users-are g t ∙ h))
+
+    pub says-pages : all (passes g t) (range (coresOf t)) ≡ true → (b : Bool) → b ≡ pagesApart (pagesOf t) (S t m g) (T t m g) → (if b then Yes else No) ≡ apartOn g t m
+    says-pages h b q = says b (unfold apart in ap (λ (a : Bool). a && pagesApart (pagesOf t) (S t m g) (T t m g)) (users-are g t ∙ h) ∙ sym q)

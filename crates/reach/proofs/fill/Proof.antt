@@ -1,14 +1,14 @@
 -- `reach::fill` meets its contract: proofs/Closing.antt ties the marks to what is reached.
 -- Assumes nothing.
+use mathlib.Core.Path.{_∙_}
+use native.Mathlib.Omega.{arith}
+use denote.Ref.{now}
+use borrow.Author.Needs.{needs}
+use Rattle.word.proofs.Bytes.{Bytes}
+use Rattle.tables.proofs.Lift.{header}
 use Rattle.reach.proofs.Closing.{zeros, zeros-long, zeros-blank, filled-beyond, filled-map}
 use Rattle.reach.proofs.Low.{Words, core-linked}
 use Rattle.reach.proofs.Marking.{marked-long}
-use Rattle.tables.proofs.Lift.{header}
-use Rattle.word.proofs.Bytes.{Bytes}
-use denote.Ref.{now}
-use native.Mathlib.Omega.{arith}
-use mathlib.Core.Path.{_∙_}
-use borrow.Author.Needs.{needs}
 use Rattle.reach.proofs.fill.Statement.{statement}
 use Rattle.reach.proofs.fill.Tie as tie
 

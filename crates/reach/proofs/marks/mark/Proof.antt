@@ -1,7 +1,7 @@
 -- `reach::marks::mark` meets its contract.
 -- Assumes nothing.
-use Rattle.reach.proofs.Marking.{marked-in, marked-out}
 use borrow.Author.Needs.{needs}
+use Rattle.reach.proofs.Marking.{marked-in, marked-out}
 use Rattle.reach.proofs.marks.mark.Statement.{statement}
 use Rattle.reach.proofs.marks.mark.Tie as tie
 

@@ -1,7 +1,7 @@
 -- `reach::marks::mark_entry` meets its contract.
 -- Assumes nothing.
-use Rattle.reach.proofs.Marking.{entry-there, entry-absent}
 use borrow.Author.Needs.{needs}
+use Rattle.reach.proofs.Marking.{entry-there, entry-absent}
 use Rattle.reach.proofs.marks.mark_entry.Statement.{statement}
 use Rattle.reach.proofs.marks.mark_entry.Tie as tie
 

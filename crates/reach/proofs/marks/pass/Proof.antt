@@ -1,11 +1,11 @@
 -- `reach::marks::pass` meets its contract. The invariant: what the tables below p name is marked.
 -- Assumes nothing.
+use mathlib.Core.Path.{_∙_}
+use Prim.Native.Nat.{_-_, _≤_}
+use native.Mathlib.Omega.{arith}
+use Rattle.reach.specs.Marks.{Marked, markedNames}
 use Rattle.reach.proofs.Passes.{pass-next, pass-end}
 use Rattle.reach.proofs.Marking.{namesTo, loop-start, marked-long}
-use Rattle.reach.specs.Marks.{Marked, markedNames}
-use native.Mathlib.Omega.{arith}
-use Prim.Native.Nat.{_-_, _≤_}
-use mathlib.Core.Path.{_∙_}
 use Rattle.reach.proofs.marks.pass.Statement.{statement}
 use Rattle.reach.proofs.marks.pass.Tie as tie
 

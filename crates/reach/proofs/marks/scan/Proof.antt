@@ -1,7 +1,7 @@
 -- `reach::marks::scan` meets its contract. The invariant: what the entries below i name is marked.
 -- Assumes nothing.
-use mathlib.Core.Path.{_≡_, refl, sym, ap, _∙_}
-use Prim.Native.Nat.{_*_, _-_, _≤_}
+use mathlib.Core.Path.{_∙_}
+use Prim.Native.Nat.{_-_, _≤_}
 use native.Mathlib.Omega.{arith}
 use Rattle.reach.specs.Marks.{Marked}
 use Rattle.reach.proofs.Marking.{namesTo, nameAt, loop-start, scan-next, scan-end, marked-long}

@@ -1,10 +1,10 @@
 -- `reach::marks::write_map` meets its contract. The invariant: the map is written below p.
 -- Assumes nothing.
-use Rattle.reach.proofs.Passes.{Mapping, map-start, map-next, map-end}
-use Rattle.reach.specs.Marks.{byteOf}
-use native.Mathlib.Omega.{arith}
-use Prim.Native.Nat.{_-_}
 use mathlib.Core.Path.{sym, _∙_}
+use Prim.Native.Nat.{_-_}
+use native.Mathlib.Omega.{arith}
+use Rattle.reach.specs.Marks.{byteOf}
+use Rattle.reach.proofs.Passes.{Mapping, map-start, map-next, map-end}
 use Rattle.reach.proofs.marks.write_map.Statement.{statement}
 use Rattle.reach.proofs.marks.write_map.Tie as tie
 

@@ -1,12 +1,12 @@
 -- `reach::roots::mark_chain` meets its contract. The invariant: what is done and what is left of the chain is the whole.
 -- Assumes nothing.
+use mathlib.Core.Path.{_∙_}
+use Prim.Native.Nat.{_<_}
+use native.Mathlib.Omega.{arith}
+use Rattle.records.proofs.Checking.{check-low}
+use Rattle.reach.specs.Marks.{recordName}
 use Rattle.reach.proofs.Chains.{Chaining, chain-start, chain-next, chain-ends, chain-out}
 use Rattle.reach.proofs.Marking.{marked-long}
-use Rattle.reach.specs.Marks.{recordName}
-use Rattle.records.proofs.Checking.{check-low}
-use native.Mathlib.Omega.{arith}
-use Prim.Native.Nat.{_<_}
-use mathlib.Core.Path.{_∙_}
 use Rattle.reach.proofs.roots.mark_chain.Statement.{statement}
 use Rattle.reach.proofs.roots.mark_chain.Tie as tie
 

@@ -1,11 +1,11 @@
 -- `reach::roots::mark_core` meets its contract: the block is lent as a part of the tables.
 -- Assumes nothing.
-use Rattle.records.specs.Records.{linked}
-use Rattle.layout.proofs.Blocks.{block-long}
-use lib.ListN.{length}
 use mathlib.Core.Path.{ap, _∙_}
-use Rattle.reach.proofs.Chains.{core-in, core-out, part-block}
+use lib.ListN.{length}
 use borrow.Author.Needs.{needs}
+use Rattle.layout.proofs.Blocks.{block-long}
+use Rattle.records.specs.Records.{linked}
+use Rattle.reach.proofs.Chains.{core-in, core-out, part-block}
 use Rattle.reach.proofs.roots.mark_core.Statement.{statement}
 use Rattle.reach.proofs.roots.mark_core.Tie as tie
 

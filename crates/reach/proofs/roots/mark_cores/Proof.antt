@@ -1,11 +1,11 @@
 -- `reach::roots::mark_cores` meets its contract. The invariant: what the cores below k name is marked.
 -- Assumes nothing.
+use mathlib.Core.Path.{_∙_}
+use Prim.Native.Nat.{_-_, _≤_}
+use native.Mathlib.Omega.{arith}
+use Rattle.reach.specs.Marks.{Marked, memberNames}
 use Rattle.reach.proofs.Chains.{cores-end}
 use Rattle.reach.proofs.Marking.{namesTo, loop-start, loop-next, marked-long}
-use Rattle.reach.specs.Marks.{Marked, memberNames}
-use native.Mathlib.Omega.{arith}
-use Prim.Native.Nat.{_-_, _≤_}
-use mathlib.Core.Path.{_∙_}
 use Rattle.reach.proofs.roots.mark_cores.Statement.{statement}
 use Rattle.reach.proofs.roots.mark_cores.Tie as tie
 

@@ -1,0 +1,106 @@
+// Asks reach and apart the questions of the groups file, and compares.
+use super::input;
+use super::replay;
+use super::report;
+use reach::Reached;
+use separation::Verdict;
+ghost use mathlib.Core.Path.{_≡_};
+ghost use Prim.Native.Nat.{_≤_, _<_};
+ghost use lib.ListN.{length};
+
+// 0, or 100 and the number of a refusal.
+fn reached_number(a: Reached) -> u32 {
+    match a {
+        Reached::Inside => 0,
+        Reached::Beyond => 0,
+        Reached::Refused(number) => word::add(100, number),
+    }
+}
+
+fn beyond_number(a: Reached) -> u32 {
+    match a {
+        Reached::Inside => 0,
+        Reached::Beyond => 1,
+        Reached::Refused(_) => 0,
+    }
+}
+
+// 0 no, 1 yes, 100 and the number of a refusal.
+fn verdict_number(a: Verdict) -> u32 {
+    match a {
+        Verdict::No => 0,
+        Verdict::Yes => 1,
+        Verdict::Refused(number) => word::add(100, number),
+    }
+}
+
+// What reach and apart promise is not needed here: their answers are compared.
+
+fn reach_of(t: &[u32], m: &[u8], group: u32, map: &mut [u8]) -> Reached {
+    reach::reach(t, m, group, map)
+}
+
+fn verdict_of(t: &[u32], m: &[u8], group: u32) -> Verdict {
+    separation::apart(t, m, group)
+}
+
+// Question j about the machine v: a group and a map's length, what reach answers and leaves in the map, and what apart answers.
+fn question(v: u32, j: u32, t: &[u32], m: &[u8], tally: &mut [u32]) {
+    let group = input::number(4);
+    let room = input::at_most(input::number(2) as usize, 16);
+    let mut map = [0xEEu8; 16];
+    let r = reach_of(t, m, group, &mut map[..room]);
+    report::reached(tally, r);
+    report::compare(tally, v, b" reach of question ", j, reached_number(r), input::number(1));
+    report::compare(tally, v, b" page beyond memory in question ", j, beyond_number(r), input::number(1));
+    report::compare(tally, v, b" map of question ", j, replay::sum_map(&map[..room]), input::number(4));
+    let a = verdict_of(t, m, group);
+    report::verdict(tally, a);
+    report::compare(tally, v, b" apart of question ", j, verdict_number(a), input::number(1));
+}
+
+fn questions(v: u32, t: &[u32], m: &[u8], n: u32, tally: &mut [u32]) {
+    let mut j: u32 = 0;
+    while j < n {
+        question(v, j, t, m, tally);
+        j += 1;
+    }
+}
+
+// One machine and its questions, in the room lent. Answers whether it has the form of one.
+fn group_in(v: u32, t: &mut [u32], m: &mut [u8], tally: &mut [u32]) -> bool
+    requires { ⌜ (length (now t) ≡ 1056) × (length (now m) ≡ 32768) ⌝ }
+{
+    let shape = input::sizes();
+    if !input::machine(t, m, shape.cores, shape.pages) {
+        return false;
+    }
+    let words = shape.words;
+    let bytes = shape.bytes;
+    let before = input::number(4);
+    report::count(tally, report::MACHINES);
+    report::compare(tally, v, b" sum of machine ", 0, replay::sum_of(&t[..words], &m[..bytes]), before);
+    let n = input::number(2);
+    questions(v, &t[..words], &m[..bytes], n, tally);
+    true
+}
+
+fn group(v: u32, tally: &mut [u32]) -> bool {
+    let mut t = [0u32; 1056];
+    let mut m = [0u8; 32768];
+    group_in(v, &mut t, &mut m, tally)
+}
+
+// All machines, up to one that has not the form of one.
+pub fn all(n: u32, tally: &mut [u32]) {
+    let mut v: u32 = 0;
+    while v < n {
+        if !group(v, tally) {
+            report::text(b"no machine: ");
+            report::number(v);
+            report::text(b"\n");
+            return;
+        }
+        v += 1;
+    }
+}

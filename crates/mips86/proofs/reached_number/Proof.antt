@@ -1,0 +1,33 @@
+-- `mips86::reached_number` meets its contract.
+-- Assumes nothing.
+use mathlib.Core.Path.{ap, refl}
+use native.Mathlib.Omega.{arith}
+use Rattle.reach.specs.Reach.{reachedNumber}
+use borrow.Author.Needs.{needs}
+use Rattle.mips86.proofs.reached_number.Statement.{statement}
+use Rattle.mips86.proofs.reached_number.Tie as tie
+
+enum-told : tie.Need-enum-told
+enum-told c = search needs
+
+enum-told-2 : tie.Need-enum-told-2
+enum-told-2 c = search needs
+
+enum-known-a : tie.Need-enum-known-a
+enum-known-a c = search needs
+
+add-result : tie.Need-add-result
+add-result c = record { fits = omega (arith, c .before .before .before .pre, ap reachedNumber (c .before .a .given .1)) }
+
+returns : tie.Need-returns
+returns c = search needs
+
+returns-2 : tie.Need-returns-2
+returns-2 c = search needs
+
+returns-3 : tie.Need-returns-3
+returns-3 c = rw (c .before .a .given .1) refl
+
+pub reached-number-spec : {M : Type 1} → statement M
+reached-number-spec =
+    tie.close (tie.spec enum-told enum-told-2 enum-known-a add-result returns returns-2 returns-3)
