@@ -51,12 +51,40 @@ fn question(v: u32, j: u32, t: &[u32], m: &[u8], tally: &mut [u32]) {
     let mut map = [0xEEu8; 16];
     let r = reach_of(t, m, group, &mut map[..room]);
     report::reached(tally, r);
-    report::compare(tally, v, b" reach of question ", j, reached_number(r), input::number(1));
-    report::compare(tally, v, b" page beyond memory in question ", j, beyond_number(r), input::number(1));
-    report::compare(tally, v, b" map of question ", j, replay::sum_map(&map[..room]), input::number(4));
+    report::compare(
+        tally,
+        v,
+        b" reach of question ",
+        j,
+        reached_number(r),
+        input::number(1),
+    );
+    report::compare(
+        tally,
+        v,
+        b" page beyond memory in question ",
+        j,
+        beyond_number(r),
+        input::number(1),
+    );
+    report::compare(
+        tally,
+        v,
+        b" map of question ",
+        j,
+        replay::sum_map(&map[..room]),
+        input::number(4),
+    );
     let a = verdict_of(t, m, group);
     report::verdict(tally, a);
-    report::compare(tally, v, b" apart of question ", j, verdict_number(a), input::number(1));
+    report::compare(
+        tally,
+        v,
+        b" apart of question ",
+        j,
+        verdict_number(a),
+        input::number(1),
+    );
 }
 
 fn questions(v: u32, t: &[u32], m: &[u8], n: u32, tally: &mut [u32]) {
@@ -79,7 +107,14 @@ fn group_in(v: u32, t: &mut [u32], m: &mut [u8], tally: &mut [u32]) -> bool
     let bytes = shape.bytes;
     let before = input::number(4);
     report::count(tally, report::MACHINES);
-    report::compare(tally, v, b" sum of machine ", 0, replay::sum_of(&t[..words], &m[..bytes]), before);
+    report::compare(
+        tally,
+        v,
+        b" sum of machine ",
+        0,
+        replay::sum_of(&t[..words], &m[..bytes]),
+        before,
+    );
     let n = input::number(2);
     questions(v, &t[..words], &m[..bytes], n, tally);
     true
