@@ -2,7 +2,7 @@
 -- each of the refusals 4 to 9. One core, and one page of memory that is zero but for its first word, an instruction.
 -- Assumes nothing.
 use mathlib.Core.Path.{_≡_, refl, sym, ap, _∙_}
-use mathlib.Core.Bool.{true, false}
+use mathlib.Core.Bool.{true}
 use mathlib.Core.List.{List, [], _∷_, _++_}
 use Prim.Native.Nat.{ℕ, zero, suc, _+_, _*_}
 use native.Mathlib.Omega.{arith}
@@ -12,7 +12,7 @@ use Rattle.word.specs.Bytes.{byte}
 use Rattle.layout.specs.Layout as at
 use Rattle.layout.specs.Blocks.{block}
 use Rattle.decode.specs.Table.{rowOf, decoded}
-use Rattle.decode.specs.Mnemonics.{itype, ill, compi, compr, alu, load, store, cas, mfence, flush, invlpg, eret, sysc}
+use Rattle.decode.specs.Mnemonics.{itype, ill, compi, compr, alu, load, store, cas, mfence, sysc}
 use Rattle.isa.specs.Core.{d, mal}
 use Rattle.isa.specs.Interrupts.{lowest}
 use Rattle.records.specs.Records.{chain, count, each, all, stores, walks, among, differing, linked}
@@ -27,9 +27,7 @@ use Rattle.store_buffer.specs.Buffer.{sbhit, sbv, sbhazard, some, sbehit, newes
 use Rattle.store_buffer.specs.System.{msOf, beneath, reads, loaded}
 use Rattle.apic.specs.Vectors.{least}
 use Rattle.apic.specs.LocalApic.{event, someUpTo}
-use Rattle.steps.specs.declared.Answer.{Answer}
 use Rattle.steps.specs.declared.Answer.the-variants.{Done, Refused}
-use Rattle.steps.specs.declared.Step.{Step}
 use Rattle.steps.specs.Form.{stepOf}
 use Rattle.cores.specs.Guards.{anyOf, settle}
 use Rattle.cores.specs.Plans.{finished}

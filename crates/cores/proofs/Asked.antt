@@ -1,11 +1,11 @@
 -- Laws of the scheme of refusals: what a decision needs of what follows a guard, it needs only where the guard does not fail.
 -- Assumes nothing.
-use mathlib.Core.Path.{_≡_, refl, sym, ap, ap₂, subst, _∙_}
+use mathlib.Core.Path.{_≡_, refl, sym, ap, ap₂, _∙_}
 use mathlib.Core.Bool.{Bool, true, false, _||_, false≢true}
 use mathlib.Core.List.{List, [], _∷_, _++_}
 use Prim.Native.Nat.{ℕ}
 use Rattle.word.specs.Word.{if_then_else_}
-use Rattle.cores.specs.Guards.{Guard, holds, fails, undecided, test, isFailure, isUndecided, anyOf, Judged, yield, ask, settle}
+use Rattle.cores.specs.Guards.{Guard, test, isFailure, isUndecided, anyOf, Judged, yield, ask, settle}
 
 -- a test is a fact or its opposite
 tested : {B : Type 0} (t : Bool) → (t ≡ true → B) → (t ≡ false → B) → B

@@ -15,7 +15,6 @@ use Rattle.decode.specs.Mnemonics.{store}
 use Rattle.isa.specs.Interrupts.{jisr, il}
 use Rattle.records.specs.declared.Store.{Store}
 use Rattle.records.specs.declared.Walk.{Walk}
-use Rattle.records.specs.Records.{stores}
 use Rattle.tables.specs.Views.{coresOf, refusalsOf}
 use Rattle.tables.specs.Sound.{sound}
 use Rattle.tables.proofs.Lift.{header, core-long, core-sound}

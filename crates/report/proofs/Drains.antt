@@ -7,21 +7,21 @@ use Prim.Native.Nat.{ℕ, suc, _+_, _%_, _^_, _<_, _≤_}
 use lib.Dec.{eqb, ltb, leb}
 use lib.ListN.{length, drop}
 use native.Mathlib.Omega.{arith}
-use borrow.Author.Tests.{ltb-true, lt-ltb, le-ltb, leb-true, leb-false, le-leb, eqb-true, eq-eqb}
+use borrow.Author.Tests.{ltb-true, lt-ltb, le-ltb, leb-true, leb-false, le-leb, eqb-true}
 use Rattle.word.specs.Word.{if_then_else_, isSet}
 use Rattle.word.proofs.Tests.{true-false}
 use Rattle.layout.specs.Blocks.{block}
 use Rattle.records.specs.declared.Store.{Store}
 use Rattle.records.specs.Records.{all, stores, walks, among}
 use Rattle.records.specs.Contents.{localPort, ioPort, there, allThere, storeSound}
-use Rattle.records.proofs.Counts.{and-left, and-right, and-both}
+use Rattle.records.proofs.Counts.{and-left, and-right}
 use Rattle.tables.specs.Views.{coresOf, linesOf, runningOf, registersOf}
 use Rattle.tables.specs.Sound.{sound}
 use Rattle.tables.proofs.Lift.{core-long, core-sound}
 use Rattle.tables.proofs.Steps.{block-stores}
 use Rattle.store_buffer.specs.declared.Target.the-variants as to
 use Rattle.store_buffer.specs.Leaving.{oldest, wordOnly, target}
-use Rattle.store_buffer.specs.System.{apicadr, ioapicadr, sized, aligned}
+use Rattle.store_buffer.specs.System.{apicadr, ioapicadr, sized}
 use Rattle.ioapic.specs.IoApic.{writes}
 use Rattle.steps.specs.declared.Step.{Step}
 use Rattle.steps.specs.declared.Step.the-variants as kind
@@ -32,7 +32,7 @@ use Rattle.cores.specs.declared.Write.the-variants.{Memory, LocalPort, IoPort}
 use Rattle.cores.specs.declared.Plan.{Plan}
 use Rattle.cores.specs.Plans.{refused, done}
 use Rattle.cores.specs.Buffer.{leavesTo, onOldest}
-use Rattle.cores.specs.Commit.{writtenTo, bufferReady, walksReady, portReady, fits}
+use Rattle.cores.specs.Commit.{writtenTo}
 use Rattle.cores.proofs.Decisions.{MayBeDone, drain-plan}
 use Rattle.machine.specs.declared.action.Action.the-variants.{Planned}
 use Rattle.machine.specs.Actions.{tablesAfter, memoryAfter}

@@ -1,6 +1,6 @@
 -- Demand 2, kind by kind, and what it says of a step that δ allows.
 -- Assumes nothing.
-use mathlib.Core.Path.{_≡_, refl, sym, ap, _∙_}
+use mathlib.Core.Path.{_≡_, refl, ap}
 use mathlib.Core.Bool.{true}
 use Prim.Native.Nat.{ℕ, _^_}
 use native.Mathlib.Omega.{arith}
@@ -15,7 +15,7 @@ use Rattle.steps.specs.Form.{stepOf}
 use Rattle.machine.specs.Decide.{byStep}
 use Rattle.machine.specs.Step.{step}
 use Rattle.machine.proofs.Forms.{formed, step-formed}
-use Rattle.report.specs.Demands.{outcome, Allowed, Ground, Demand2, limited, Unhindered}
+use Rattle.report.specs.Demands.{outcome, Ground, Demand2, limited, Unhindered}
 use Rattle.report.specs.Delta as report
 use Rattle.report.specs.View.{view}
 use Rattle.report.proofs.Cases.{Case, by-step}

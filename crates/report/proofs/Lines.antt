@@ -17,7 +17,7 @@ use Rattle.layout.specs.Blocks.{block}
 use Rattle.layout.proofs.Blocks.{set-block}
 use Rattle.tables.specs.Views.{coresOf, linesOf, runningOf}
 use Rattle.tables.specs.Sound.{sound}
-use Rattle.tables.proofs.Lift.{header, core-long, core-fits}
+use Rattle.tables.proofs.Lift.{header, core-long}
 use Rattle.apic.specs.Vectors.{withBit}
 use Rattle.apic.specs.LocalApic.{idOf, fixed, irr}
 use Rattle.apic.proofs.Bits.{bit-lt, bit-same, bit-other}

@@ -1,30 +1,29 @@
 -- A machine as made is as the report has it after reset (12.1).
 -- Assumes nothing.
 use mathlib.Core.Path.{_≡_, refl, sym, _∙_, ap}
-use mathlib.Core.Bool.{Bool, true, false}
-use mathlib.Core.List.{List, [], _∷_}
-use Prim.Native.Nat.{ℕ, zero, suc, _+_, _-_, _*_, _/_, _%_, _^_, _<_, _≤_}
+use mathlib.Core.Bool.{true, false}
+use mathlib.Core.List.{List}
+use Prim.Native.Nat.{ℕ, zero, suc, _+_, _-_, _/_, _%_, _^_, _<_, _≤_}
 use native.Mathlib.Nat.{zero-div}
 use native.Mathlib.Omega.{arith}
 use lib.Dec.{eqb}
-use lib.ListN.{length, getD, take, drop, replicate, length-take, length-drop, getD-replicate, List·getD-append}
+use lib.ListN.{getD, take, drop, replicate, length-take, length-drop, getD-replicate, List·getD-append}
 use lib.Seq.{getD-take, getD-drop}
 use borrow.Author.Tests.{eqb-true}
-use Rattle.word.specs.Word.{bit, field}
+use Rattle.word.specs.Word.{bit}
 use Rattle.layout.specs.Layout as at
 use Rattle.layout.specs.Blocks.{block}
 use Rattle.isa.specs.declared.registers.Registers.{Registers}
 use Rattle.isa.specs.Core.{sprAt}
-use Rattle.records.specs.declared.Walk.{Walk}
 use Rattle.records.specs.Records.{all, stores, walks, among}
 use Rattle.records.proofs.Facts.{all-at}
-use Rattle.tables.specs.Views.{linesOf, registersOf, runningOf, portByte}
+use Rattle.tables.specs.Views.{registersOf, runningOf, portByte}
 use Rattle.tables.specs.Make.{chained, madeBlock, madeBlocks, made}
 use Rattle.tables.proofs.Fresh.{block-long}
 use Rattle.tables.proofs.Reset.{made-block, made-registers, made-running, made-stores, made-walks}
 use Rattle.report.specs.Components.{bytes, ID, ICR, bitAt, irr, isr}
 use Rattle.report.specs.View.{apicOf, processorOf, ioapicOf, view}
-use Rattle.report.specs.Demands.{Reset, Resets}
+use Rattle.report.specs.Demands.{Resets}
 use Rattle.report.proofs.Frames.{redirect-at}
 
 -- no bit of 0 is set

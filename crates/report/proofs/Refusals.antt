@@ -27,7 +27,7 @@ use Rattle.machine.proofs.Words.{step-words, step-bytes}
 use Rattle.machine.proofs.Taking.{taken-refused, not-sound, is-sound}
 use Rattle.machine.proofs.Levels as levels
 use Rattle.machine.proofs.Answers.{after-answer, taken-known}
-use Rattle.report.specs.Demands.{countAfter, Left, known, Answered, Demand1}
+use Rattle.report.specs.Demands.{countAfter, Left, known, Demand1}
 
 -- what is answered on sound tables is one of the answers, and no refusal 4
 weaker : (x : Answer) → levels.known x ≡ true → known x ≡ true

@@ -10,25 +10,23 @@ use native.Mathlib.Omega.{arith}
 use borrow.Author.Tests.{lt-ltb, le-ltb, leb-true, leb-false, eqb-true}
 use Rattle.word.specs.Word.{if_then_else_}
 use Rattle.word.specs.Bytes.{bytesAt}
-use Rattle.word.proofs.Bytes.{Bytes, bytes-lt}
+use Rattle.word.proofs.Bytes.{Bytes}
 use Rattle.word.proofs.Tests.{true-false, or-false}
 use Rattle.layout.specs.Layout as at
 use Rattle.layout.specs.Blocks.{block}
 use Rattle.records.specs.declared.Walk.{Walk}
 use Rattle.records.specs.Records.{walks, same, among, withWalk}
-use Rattle.records.specs.Contents.{walkSound}
 use Rattle.records.proofs.Counts.{and-left, and-right}
 use Rattle.tables.specs.Views.{coresOf}
 use Rattle.tables.specs.Sound.{sound}
-use Rattle.tables.proofs.Lift.{core-fits, core-long, core-sound}
-use Rattle.tables.proofs.Steps.{block-linked, block-few-stores, block-few-walks, block-walks}
+use Rattle.tables.proofs.Lift.{core-long, core-sound}
+use Rattle.tables.proofs.Steps.{block-linked, block-few-stores, block-few-walks}
 use Rattle.tlb.specs.declared.Entry.the-variants.{Word, Missing}
 use Rattle.tlb.specs.declared.Decision.{Decision}
 use Rattle.tlb.specs.declared.Decision.the-variants as tlb
 use Rattle.tlb.specs.Walks.{baseAddress, pteA, pteP, ptea, entryAt, walkAsid, complete, winit, wext, wextFault, suffices, set-d}
 use Rattle.tlb.specs.Steps.{userMode, runs, asidOf, originOf, extendable, tlbCreate, onExtend, tlbExtend, onAccessed, tlbAccessed}
-use Rattle.tlb.proofs.Fields.{same-walk, ptea-aligned, winit-sound, wext-sound}
-use Rattle.tlb.proofs.Steps.{held-sound, is-held}
+use Rattle.tlb.proofs.Fields.{same-walk, ptea-aligned}
 use Rattle.word.proofs.Words.{Words}
 use Rattle.ioapic.proofs.Blocks.{block-words}
 use Rattle.steps.specs.declared.Answer.the-variants.{Refused}
@@ -43,11 +41,10 @@ use Rattle.cores.specs.declared.Plan.{Plan}
 use Rattle.cores.specs.Plans.{refused, done}
 use Rattle.cores.specs.Core.{isFree}
 use Rattle.cores.specs.Walks.{adding, planned}
-use Rattle.cores.specs.Commit.{writtenTo, walksReady}
+use Rattle.cores.specs.Commit.{writtenTo}
 use Rattle.cores.proofs.Decisions.{MayBeDone, create-plan, extend-plan, accessed-plan}
-use Rattle.machine.specs.declared.action.Action.{Action}
 use Rattle.machine.specs.declared.action.Action.the-variants.{Planned}
-use Rattle.machine.specs.Actions.{answerOf, tablesAfter, memoryAfter}
+use Rattle.machine.specs.Actions.{tablesAfter, memoryAfter}
 use Rattle.machine.specs.Decide.{byStep}
 use Rattle.machine.proofs.Fitting.{quarters}
 use Rattle.report.specs.Configuration.{Configuration, withM, withTlb}
@@ -55,7 +52,7 @@ use Rattle.report.specs.Components.{bytes, inside, ΣM, δm, ΣTlb, δtl
 use Rattle.report.specs.Delta as report
 use Rattle.report.specs.View.{processorOf, ioapicOf, memoryOf, view, Same}
 use Rattle.report.specs.Needs.{noByte, misses}
-use Rattle.report.specs.Demands.{Allowed, Adds, Crowded}
+use Rattle.report.specs.Demands.{Adds, Crowded}
 use Rattle.report.proofs.Bits.{and-assoc, and-comm, and-swap}
 use Rattle.report.proofs.Memory.{memory-out, memory-bytes, bytes-step, inside-from, inside-is, put-memory, ptea-low}
 use Rattle.report.proofs.Cases.{δx, Has, Roomy, adds-none, Case, is-a-step}

@@ -1,6 +1,6 @@
 -- Refusal 7 (01, 'Step'): a byte to be read, written or put in the store buffer is in neither memory nor a port that the report allows there.
 -- Assumes nothing.
-use mathlib.Core.Bool.{Bool, true, false, not, _&&_, _||_}
+use mathlib.Core.Bool.{Bool, false, not, _&&_, _||_}
 use mathlib.Core.List.{List, [], _∷_}
 use Prim.Native.Nat.{ℕ}
 use lib.Dec.{ltb}
