@@ -7,6 +7,6 @@ pub mod Facts
 pub mod Within
 pub mod Closing
 pub mod Mapped
-pub mod Yes
+pub mod Conditions
 pub mod Separation
 pub mod Deciding

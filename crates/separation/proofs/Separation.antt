@@ -22,7 +22,7 @@ use Rattle.separation.proofs.Good.{table-reached}
 use Rattle.separation.proofs.Closing.{reach-same}
 use Rattle.separation.proofs.Mapped.{reached-low, shown-is, select-both, group-there, members-same}
 use Rattle.separation.proofs.Within.{Fixed, Within, next-within, Two, keeps-two}
-use Rattle.separation.proofs.Yes.{G, R, conditions, low-group, fixed, start-within, framed}
+use Rattle.separation.proofs.Conditions.{G, R, conditions, low-group, fixed, start-within, framed}
 
 -- ---- the statement's own recursions are those of the two lists
 
