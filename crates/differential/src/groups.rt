@@ -44,12 +44,9 @@ fn verdict_of(t: &[u32], m: &[u8], group: u32) -> Verdict {
     separation::apart(t, m, group)
 }
 
-// Question j about the machine v: a group and a map's length, what reach answers and leaves in the map, and what apart answers.
-fn question(v: u32, j: u32, t: &[u32], m: &[u8], tally: &mut [u32]) {
-    let group = input::number(4);
-    let room = input::at_most(input::number(2) as usize, 16);
-    let mut map = [0xEEu8; 16];
-    let r = reach_of(t, m, group, &mut map[..room]);
+// Reach for question j about the machine v: its answer, whether a page is beyond memory, and the check sum of the map.
+fn reach_asked(v: u32, j: u32, t: &[u32], m: &[u8], group: u32, map: &mut [u8], tally: &mut [u32]) {
+    let r = reach_of(t, m, group, map);
     report::reached(tally, r);
     report::compare(
         tally,
@@ -72,9 +69,12 @@ fn question(v: u32, j: u32, t: &[u32], m: &[u8], tally: &mut [u32]) {
         v,
         b" map of question ",
         j,
-        replay::sum_map(&map[..room]),
+        replay::sum_map(map),
         input::number(4),
     );
+}
+
+fn apart_asked(v: u32, j: u32, t: &[u32], m: &[u8], group: u32, tally: &mut [u32]) {
     let a = verdict_of(t, m, group);
     report::verdict(tally, a);
     report::compare(
@@ -85,6 +85,21 @@ fn question(v: u32, j: u32, t: &[u32], m: &[u8], tally: &mut [u32]) {
         verdict_number(a),
         input::number(1),
     );
+}
+
+// Question j: a group, and the length of the map to hand over, from the front of the room lent.
+fn question_in(v: u32, j: u32, t: &[u32], m: &[u8], map: &mut [u8], tally: &mut [u32])
+    requires { ⌜ 16 ≤ length (now map) ⌝ }
+{
+    let group = input::number(4);
+    let n = input::at_most(input::number(2) as usize, 16);
+    reach_asked(v, j, t, m, group, &mut map[..n], tally);
+    apart_asked(v, j, t, m, group, tally);
+}
+
+fn question(v: u32, j: u32, t: &[u32], m: &[u8], tally: &mut [u32]) {
+    let mut map = [0xEEu8; 16];
+    question_in(v, j, t, m, &mut map, tally);
 }
 
 fn questions(v: u32, t: &[u32], m: &[u8], n: u32, tally: &mut [u32]) {

@@ -1,4 +1,4 @@
-// Reads the vector file from front to back. Where it ends early, what is missing reads as zero, and the check sums then differ.
+// Reads the vector files from front to back. Where it ends early, what is missing reads as zero, and the check sums then differ.
 use layout::BLOCK_WORDS;
 use layout::HEADER_WORDS;
 use layout::PAGE_BYTES;
@@ -28,11 +28,11 @@ pub fn number(d: usize) -> u32
 
 // The machine of a vector: its cores and pages, and the words of tables and the bytes of memory to hand over. All are zero where the file has
 // numbers that no vector has.
-struct Shape {
-    cores: u32,
-    pages: u32,
-    words: usize,
-    bytes: usize,
+pub struct Shape {
+    pub cores: u32,
+    pub pages: u32,
+    pub words: usize,
+    pub bytes: usize,
 }
 
 fn limited(cores: u32, pages: u32, words: usize, bytes: usize) -> Shape
@@ -64,7 +64,7 @@ fn limited(cores: u32, pages: u32, words: usize, bytes: usize) -> Shape
     }
 }
 
-fn sizes() -> Shape
+pub fn sizes() -> Shape
     ensures { λ r. ⌜ (r .cores ≤ 4) × (r .pages ≤ 8) × (r .words ≤ 1056) × (r .bytes ≤ 32768) ⌝ }
 {
     let cores = number(1);
@@ -171,7 +171,7 @@ fn memory_runs(m: &mut [u8]) -> bool
 }
 
 // A machine of so many cores and pages is made, and the runs of the file go over it. Answers whether they fit.
-fn machine(t: &mut [u32], m: &mut [u8], cores: u32, pages: u32) -> bool
+pub fn machine(t: &mut [u32], m: &mut [u8], cores: u32, pages: u32) -> bool
     requires { ⌜ (length (now t) ≡ 1056) × (length (now m) ≡ 32768) × (cores ≤ 4) × (pages ≤ 8) ⌝ }
 {
     let words = HEADER_WORDS + BLOCK_WORDS * (cores as usize);
@@ -221,7 +221,7 @@ fn steps(s: &mut [u32], answers: &mut [u32], sums: &mut [u32], n: usize)
     }
 }
 
-fn at_most(n: usize, limit: usize) -> usize
+pub fn at_most(n: usize, limit: usize) -> usize
     ensures { λ r. ⌜ (r ≤ n) × (r ≤ limit) ⌝ }
 {
     if n < limit { n } else { limit }

@@ -1,6 +1,7 @@
-// Replays the vectors of the independent simulator (oracle/README.md says how they stand in the file) through machine::step and machine::run, and
-// compares each answer and each check sum. Standard input is a copy of oracle/vectors/steps.bin. Prints a line for each difference, and the counts of answers,
-// by number and by the kind of step: those that oracle/README.md prints.
+// Replays the vectors of the independent simulator (oracle/README.md says how they stand in the files) through machine::step and machine::run, and those
+// about groups through reach and apart, and compares each answer, each check sum and each map. Standard input is oracle/vectors/steps.bin and, after it,
+// oracle/vectors/groups.bin. Prints a line for each difference, and the counts of answers: those that oracle/README.md prints.
+mod groups;
 mod input;
 mod replay;
 mod report;
@@ -10,8 +11,10 @@ ghost use mathlib.Core.Path.{_≡_};
 ghost use Prim.Native.Nat.{_≤_};
 ghost use lib.ListN.{length};
 
-// 'M86S', low byte first.
+// 'M86S' and 'M86G', low byte first.
 const STEPS_FILE: u32 = 0x5336_384D;
+
+const GROUPS_FILE: u32 = 0x4736_384D;
 
 // What was read of a vector is replayed twice: its steps one by one on the machine, and its run on a copy of the machine.
 fn compare(
@@ -94,17 +97,22 @@ fn vectors(n: u32, tally: &mut [u32]) {
     }
 }
 
-fn main() {
-    let mark = input::number(4);
+// The number of vectors of a file, after its mark and version; the seed that it was made from is passed over.
+fn file(mark: u32) -> u32 {
+    let found = input::number(4);
     let version = input::number(4);
-    if (mark != STEPS_FILE) | (version != 1) {
-        report::text(b"no file of steps\n");
-        return;
-    }
     let n = input::number(4);
-    // The seed that the file was made from.
     input::number(4);
-    let mut tally = [0u32; 80];
-    vectors(n, &mut tally);
+    if (found != mark) | (version != 1) {
+        report::text(b"not the file of vectors that is expected\n");
+        return 0;
+    }
+    n
+}
+
+fn main() {
+    let mut tally = [0u32; report::TALLY];
+    vectors(file(STEPS_FILE), &mut tally);
+    groups::all(file(GROUPS_FILE), &mut tally);
     report::all(&tally);
 }

@@ -54,8 +54,23 @@ fn sum_bytes(h: u32, m: &[u8]) -> u32 {
     sum
 }
 
-fn sum_of(t: &[u32], m: &[u8]) -> u32 {
+pub fn sum_of(t: &[u32], m: &[u8]) -> u32 {
     sum_bytes(sum_words(0, t), m)
+}
+
+// The check sum of a map, byte by byte.
+pub fn sum_map(l: &[u8]) -> u32 {
+    let mut sum: u32 = 0;
+    let mut i: usize = 0;
+    while i < l.len() {
+        sum = mix(sum, wide(l[i]));
+        i += 1;
+    }
+    sum
+}
+
+fn wide(x: u8) -> u32 {
+    x as u32
 }
 
 // 0 done, 1 and the level of an interrupt, 100 and the number of a refusal.

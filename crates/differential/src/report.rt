@@ -1,6 +1,8 @@
 // What is counted, and the lines that are printed.
 use libc::STDOUT_FILENO;
 use machine::run::Stop;
+use reach::Reached;
+use separation::Verdict;
 use steps::Answer;
 ghost use Prim.Native.Nat.{_≤_};
 
@@ -27,7 +29,23 @@ pub const RUN_LIMIT: usize = 65;
 
 pub const RUN_REFUSALS: usize = 66;
 
-pub const TALLY: usize = 80;
+pub const MACHINES: usize = 80;
+
+pub const QUESTIONS: usize = 81;
+
+pub const REACH_INSIDE: usize = 82;
+
+pub const REACH_BEYOND: usize = 83;
+
+pub const REACH_REFUSALS: usize = 84;
+
+pub const APART_NO: usize = 98;
+
+pub const APART_YES: usize = 99;
+
+pub const APART_REFUSALS: usize = 100;
+
+pub const TALLY: usize = 114;
 
 // One more at a place.
 pub fn count(tally: &mut [u32], place: usize) {
@@ -104,6 +122,23 @@ pub fn stop(tally: &mut [u32], s: Stop) {
     }
 }
 
+pub fn reached(tally: &mut [u32], a: Reached) {
+    count(tally, QUESTIONS);
+    match a {
+        Reached::Inside => count(tally, REACH_INSIDE),
+        Reached::Beyond => count(tally, REACH_BEYOND),
+        Reached::Refused(number) => count(tally, REACH_REFUSALS + numbered(number)),
+    }
+}
+
+pub fn verdict(tally: &mut [u32], a: Verdict) {
+    match a {
+        Verdict::No => count(tally, APART_NO),
+        Verdict::Yes => count(tally, APART_YES),
+        Verdict::Refused(number) => count(tally, APART_REFUSALS + numbered(number)),
+    }
+}
+
 // ---- the lines at the end
 
 fn row(name: &[u8], n: u32) {
@@ -114,7 +149,7 @@ fn row(name: &[u8], n: u32) {
 
 // The numbers of a part of the tally, each with a name and its number.
 fn rows(name: &[u8], tally: &[u32], place: usize, from: u32, to: u32)
-    requires { ⌜ (place ≤ 80) × (to ≤ 16) ⌝ }
+    requires { ⌜ (place ≤ 100) × (to ≤ 16) ⌝ }
 {
     let mut n = from;
     while n < to {
@@ -147,5 +182,15 @@ pub fn all(tally: &[u32]) {
     row(b"run end ", counted(tally, RUN_END));
     row(b"run limit ", counted(tally, RUN_LIMIT));
     rows(b"run refused ", tally, RUN_REFUSALS, 4, 12);
+    row(b"machines ", counted(tally, MACHINES));
+    row(b"questions ", counted(tally, QUESTIONS));
+    row(b"reach inside ", counted(tally, REACH_INSIDE));
+    row(b"reach beyond ", counted(tally, REACH_BEYOND));
+    row(b"reach refused 4 ", counted(tally, REACH_REFUSALS + 4));
+    rows(b"reach refused ", tally, REACH_REFUSALS, 12, 14);
+    row(b"apart no ", counted(tally, APART_NO));
+    row(b"apart yes ", counted(tally, APART_YES));
+    row(b"apart refused 4 ", counted(tally, APART_REFUSALS + 4));
+    row(b"apart refused 13 ", counted(tally, APART_REFUSALS + 13));
     row(b"differences ", counted(tally, DIFFERENCES));
 }

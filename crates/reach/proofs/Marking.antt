@@ -86,11 +86,16 @@ loop-next n s e g p q f i A B =
 
 -- ---- entries
 
-pub entry-there : (n k e : ℕ) (s g : List ℕ) (r t : Bool) → t ≡ pteP e → t ≡ true → Marked n s g r (name k (e / 4096) (e / 256 % 2) ∷ []) → Marked n s g r (entryName k (Word e))
-entry-there n k e s g r t p q A = let h : pteP e ≡ true = sym p ∙ q in rw h A
+pub entry-there : (n k e : ℕ) (s g : List ℕ) (b r t : Bool) → t ≡ pteP e → t ≡ true → Marked n s g r (name k (e / 4096) (e / 256 % 2) ∷ [])
+    → (g ≡ marks n s (entryName k (Word e))) × (b || r ≡ b || strays n (entryName k (Word e)))
+entry-there n k e s g b r t p q A = let h : pteP e ≡ true = sym p ∙ q in rw h (A .left, ap (λ (z : Bool). b || z) (A .beyond))
 
-pub entry-absent : (n k e : ℕ) (s : List ℕ) (t : Bool) → t ≡ pteP e → t ≡ false → Marked n s s false (entryName k (Word e))
-entry-absent n k e s t p q = let h : pteP e ≡ false = sym p ∙ q in rw h (marked-none n s)
+pub entry-absent : (n k e : ℕ) (s : List ℕ) (b t : Bool) → t ≡ pteP e → t ≡ false → (s ≡ marks n s (entryName k (Word e))) × (b ≡ b || strays n (entryName k (Word e)))
+entry-absent n k e s b t p q = let h : pteP e ≡ false = sym p ∙ q in rw h (marked-none n s .left, sym (or-none b) ∙ ap (λ (z : Bool). b || z) (marked-none n s .beyond))
+  where
+    or-none : (c : Bool) → c || false ≡ c
+    or-none true = refl
+    or-none false = refl
 
 -- the entry i of the table in page x
 abbrev pub nameAt : ℕ → List ℕ → ℕ → ℕ → List Name
@@ -104,10 +109,13 @@ entry-at m n x i long few low h =
     rw (a, l)
 
 pub scan-next : (n : ℕ) (s e g : List ℕ) (p q : Bool) (k : ℕ) (m : List ℕ) (x i v : ℕ) → length m ≡ 4096 * n → n ≤ 4096 → x < n → i < 1024
-    → v ≡ bytesAt 4 m (4096 * x + 4 * i) → Marked n s e p (namesTo (nameAt k m x) i) → Marked n e g q (entryName k (Word v)) → Marked n s g (p || q) (namesTo (nameAt k m x) (i + 1))
-scan-next n s e g p q k m x i v long few low h f A B =
-    loop-next n s e g p q (nameAt k m x) i A
-    (subst (λ (z : Entry). Marked n e g q (entryName k z)) (ap (λ (z : ℕ). Word z) f ∙ sym (entry-at m n x i long few low h)) B)
+    → v ≡ bytesAt 4 m (4096 * x + 4 * i) → Marked n s e p (namesTo (nameAt k m x) i) → g ≡ marks n e (entryName k (Word v)) → q ≡ p || strays n (entryName k (Word v))
+    → Marked n s g q (namesTo (nameAt k m x) (i + 1))
+scan-next n s e g p q k m x i v long few low h f A B C =
+    subst (λ (r : Bool). Marked n s g r (namesTo (nameAt k m x) (i + 1))) (sym C)
+    (loop-next n s e g p (strays n (entryName k (Word v))) (nameAt k m x) i A
+    (subst (λ (z : Entry). Marked n e g (strays n (entryName k (Word v))) (entryName k z)) (ap (λ (z : ℕ). Word z) f ∙ sym (entry-at m n x i long few low h))
+    (record { left = B; beyond = refl })))
 
 pub scan-end : (n : ℕ) (s e : List ℕ) (p : Bool) (k : ℕ) (m : List ℕ) (x i : ℕ) → i ≡ 1024 → Marked n s e p (namesTo (nameAt k m x) i) → Marked n s e p (entryNames k m x)
 unfolding entryNames namesTo

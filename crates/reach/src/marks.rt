@@ -1,6 +1,7 @@
 // Three sets of pages as marks in one array of bytes, 8,192 a set: first-level tables, second-level tables, data (specs/Marks.antt).
 // A mark is a plain store of 1, so that a table page is read once, entry by entry.
 ghost use mathlib.Core.Path.{_≡_};
+ghost use mathlib.Core.Bool.{_||_};
 ghost use mathlib.Core.List.{[], _∷_};
 ghost use mathlib.Core.List as lists;
 ghost use Prim.Native.Nat.{_+_, _*_, _<_, _≤_};
@@ -23,15 +24,17 @@ pub(crate) fn mark(s: &mut [u8], pages: u32, kind: u32, p: u32, w: u32) -> bool
     true
 }
 
-// Marks the page that an entry names, if it is present.
-fn mark_entry(s: &mut [u8], pages: u32, kind: u32, e: u32) -> bool
+// Marks the page that an entry names, if it is present; whether that page is beyond memory, or one was before.
+fn mark_entry(s: &mut [u8], pages: u32, kind: u32, e: u32, beyond: bool) -> bool
     requires { ⌜ (length (now s) ≡ 24576) × (pages ≤ 4096) × (kind < 3) ⌝ }
-    ensures { λ r. ⌜ x.Marked pages (now (s .entry)) (now (s .exit)) r (x.entryName kind (Entry.Word e)) ⌝ }
+    ensures { λ _. ⌜ now (s .exit) ≡ x.marks pages (now (s .entry)) (x.entryName kind (Entry.Word e)) ⌝ }
+    ensures { λ r. ⌜ r ≡ (beyond || x.strays pages (x.entryName kind (Entry.Word e))) ⌝ }
 {
     if tlb::present(e) {
-        return mark(s, pages, kind, e / 0x1000, e / 0x100 % 2);
+        let stray = mark(s, pages, kind, e / 0x1000, e / 0x100 % 2);
+        return beyond | stray;
     }
-    false
+    beyond
 }
 
 // Marks the pages that the entries of the table in page p name.
@@ -45,8 +48,7 @@ fn scan(s: &mut [u8], m: &[u8], pages: u32, kind: u32, p: u32) -> bool
     let mut i: usize = 0;
     while i < 1024 {
         let e = word::read_word(m, start + 4 * i);
-        let stray = mark_entry(s, pages, kind, e);
-        beyond = beyond | stray;
+        beyond = mark_entry(s, pages, kind, e, beyond);
         i += 1;
     }
     beyond

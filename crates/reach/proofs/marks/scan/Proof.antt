@@ -41,7 +41,7 @@ loop-less c = omega arith
 loop-again : tie.Need-loop-again Inv-loop μ-loop
 loop-again c =
     let e = c .before .before .before .before .before .before .before .before .before in
-    (omega arith, scan-next _ _ _ _ _ _ _ _ (e .args .p) (c .before .before .before .before .before .before .loop .i) _ (e .pre .1 .0) (e .pre .0 .1) (e .pre .1 .1) (c .before .before .before .before .before .loop-test .taken) (c .before .before .before .before .read-word .ensures) (c .before .before .before .before .before .before .loop .inv .1) (c .before .before .mark-entry .ensures))
+    (omega arith, scan-next _ _ _ _ _ _ _ _ (e .args .p) (c .before .before .before .before .before .before .loop .i) _ (e .pre .1 .0) (e .pre .0 .1) (e .pre .1 .1) (c .before .before .before .before .before .loop-test .taken) (c .before .before .before .before .read-word .ensures) (c .before .before .before .before .before .before .loop .inv .1) (c .before .before .mark-entry .ensures .0) (c .before .before .mark-entry .ensures .1))
 
 same-length : tie.Need-same-length Inv-loop μ-loop
 same-length c = marked-long (c .before .loop .inv .1)
