@@ -14,22 +14,30 @@ use Rattle.apic.specs.Vectors.{withBit}
 pub bit-lt : (w i : ℕ) → bit w i < 2
 bit-lt w i = omega arith
 
--- ---- the word stays a word
+-- ---- a number below a power of two stays below it
 
-module _ (w i x : ℕ) (hw : w < 2 ^ 32) (hi : i < 32) (hx : x < 2) where
-  split-32 : 32 - i + i ≡ 32
-  split-32 = omega arith
+module _ (j w i x : ℕ) (hw : w < 2 ^ j) (hi : i < j) (hx : x < 2) where
+  split-at : j - i + i ≡ j
+  split-at = omega arith
 
-  half : 2 ^ (32 - i) ≡ 2 ^ (31 - i) * 2
-  half = let e : 32 - i ≡ suc (31 - i) = omega arith in ap (λ (n : ℕ). 2 ^ n) e ∙ pow-suc 2 (31 - i)
+  half : 2 ^ (j - i) ≡ 2 ^ (j - suc i) * 2
+  half = let e : j - i ≡ suc (j - suc i) = omega arith in ap (λ (n : ℕ). 2 ^ n) e ∙ pow-suc 2 (j - suc i)
 
-  pub above-lt : w / 2 ^ i / 2 * 2 + x < 2 ^ (32 - i)
+  above-lt : w / 2 ^ i / 2 * 2 + x < 2 ^ (j - i)
   above-lt =
-      let q : w / 2 ^ i < 2 ^ (32 - i) = shr-lt (32 - i) i (subst (λ (n : ℕ). w < 2 ^ n) (sym split-32) hw) in
+      let q : w / 2 ^ i < 2 ^ (j - i) = shr-lt (j - i) i (subst (λ (n : ℕ). w < 2 ^ n) (sym split-at) hw) in
       omega (arith, half)
 
-  pub above-exact : (w / 2 ^ i / 2 * 2 + x) * 2 ^ i % 2 ^ 32 ≡ (w / 2 ^ i / 2 * 2 + x) * 2 ^ i
-  above-exact = shl-exact (32 - i) i 32 above-lt (omega arith)
+  pub put-below : withBit w i x < 2 ^ j
+  unfolding withBit
+  put-below =
+      subst (λ (n : ℕ). (w / 2 ^ i / 2 * 2 + x) * 2 ^ i + w % 2 ^ i < n) (sym (pow-add 2 (j - i) i) ∙ ap (λ (n : ℕ). 2 ^ n) split-at)
+      (digits-lt above-lt (mod-lt w (pow-pos i)))
+
+-- and a word a word
+module _ (w i x : ℕ) (hw : w < 2 ^ 32) (hi : i < 32) (hx : x < 2) where
+  above-exact : (w / 2 ^ i / 2 * 2 + x) * 2 ^ i % 2 ^ 32 ≡ (w / 2 ^ i / 2 * 2 + x) * 2 ^ i
+  above-exact = shl-exact (32 - i) i 32 (above-lt 32 w i x hw hi hx) (omega arith)
 
   pub one-exact : 1 * 2 ^ i % 2 ^ 32 ≡ 2 ^ i
   one-exact = let l : 1 < 2 ^ 1 = omega arith in shl-exact 1 i 32 l (omega arith) ∙ one-mul (2 ^ i)
@@ -39,10 +47,7 @@ module _ (w i x : ℕ) (hw : w < 2 ^ 32) (hi : i < 32) (hx : x < 2) where
   put-exact = ap₂ (λ (m n : ℕ). m + w % n) above-exact one-exact
 
   pub put-lt : withBit w i x < 2 ^ 32
-  unfolding withBit
-  put-lt =
-      subst (λ (n : ℕ). (w / 2 ^ i / 2 * 2 + x) * 2 ^ i + w % 2 ^ i < n) (sym (pow-add 2 (32 - i) i) ∙ ap (λ (n : ℕ). 2 ^ n) split-32)
-      (digits-lt above-lt (mod-lt w (pow-pos i)))
+  put-lt = put-below 32 w i x hw hi hx
 
 -- ---- bit by bit
 

@@ -1,4 +1,5 @@
 pub mod Bits
+pub mod Bytes
 pub mod Least
 pub mod Words
 pub mod Events

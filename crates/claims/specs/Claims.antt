@@ -16,7 +16,7 @@ pub record Claims : Type 0 where
   pub demand2 : Demand2
   -- So a step that the function allows is accepted, or refused by a limit of ours, 7 to 10.
   pub unhindered : Unhindered
-  -- A machine as made is in a configuration that the report allows after reset.
+  -- A machine as made is sound, and in a configuration that the report allows after reset.
   pub reset : Resets
   -- Two machines with the verdict "apart" for a group, alike in the group's blocks and reachable pages: for any two lists of single steps in
   -- which the group takes the same steps, the group gets the same answers and sees the same state after each of its steps, whatever the others hold and do.

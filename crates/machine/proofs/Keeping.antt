@@ -4,13 +4,10 @@ use mathlib.Core.Path.{_≡_, refl, sym, _∙_, ap, subst}
 use mathlib.Core.Logic.{inl, inr}
 use mathlib.Core.Bool.{Bool, true, false}
 use mathlib.Core.List.{List}
-use Prim.Native.Nat.{ℕ, zero, suc, _+_, _-_, _*_, _/_, _%_, _^_, _<_, _≤_}
+use Prim.Native.Nat.{ℕ, zero, suc, _+_, _-_, _^_, _<_, _≤_}
 use lib.ListN.{length, getD, set, length-set}
 use lib.Seq.{getD-set-other}
-use lib.Arith.{digits-lt}
-use lib.Pow.{pow-pos, pow-add, shr-lt}
 use lib.Dec.{eqb, ltb}
-use native.Mathlib.Nat.{mod-lt, pow-suc}
 use native.Mathlib.Omega.{arith}
 use Rattle.word.specs.Word.{if_then_else_}
 use Rattle.word.proofs.Bytes.{Bytes}
@@ -29,6 +26,7 @@ use Rattle.apic.specs.declared.active.Ipi.{Ipi}
 use Rattle.apic.specs.Vectors.{withBit}
 use Rattle.apic.specs.LocalApic.{idOf, fixed, irr}
 use Rattle.apic.specs.Active.{idle, reached, eoiSent, initCore, startCore}
+use Rattle.apic.proofs.Bits.{put-below}
 use Rattle.apic.proofs.Kept.{Kept, Passive, Reset, kept-all, kept-if, kept-vector, kept-idle, kept-reached, kept-initCore, kept-startCore}
 use Rattle.ioapic.specs.Blocks.{onBlock, onBlocks}
 use Rattle.ioapic.specs.IoApic.{entry, withEntry, dest, vect, rirr, ds, onEntries, acknowledged, ended, sampled, handed}
@@ -149,26 +147,6 @@ module _ (n : ℕ) where
       let K = on-entries f t e c (omega arith) in
       keeps-then K (with-entry (onEntries f c t) c (f (entry (onEntries f c t) c)) (K .is-sound) (omega arith))
 
--- ---- a bit put into a number below a power of two
-
-module _ (j w i x : ℕ) (hw : w < 2 ^ j) (hi : i < j) (hx : x < 2) where
-  split-at : j - i + i ≡ j
-  split-at = omega arith
-
-  half : 2 ^ (j - i) ≡ 2 ^ (j - suc i) * 2
-  half = let e : j - i ≡ suc (j - suc i) = omega arith in ap (λ (n : ℕ). 2 ^ n) e ∙ pow-suc 2 (j - suc i)
-
-  above-lt : w / 2 ^ i / 2 * 2 + x < 2 ^ (j - i)
-  above-lt =
-      let q : w / 2 ^ i < 2 ^ (j - i) = shr-lt (j - i) i (subst (λ (n : ℕ). w < 2 ^ n) (sym split-at) hw) in
-      omega (arith, half)
-
-  pub bit-below : withBit w i x < 2 ^ j
-  unfolding withBit
-  bit-below =
-      subst (λ (n : ℕ). (w / 2 ^ i / 2 * 2 + x) * 2 ^ i + w % 2 ^ i < n) (sym (pow-add 2 (j - i) i) ∙ ap (λ (n : ℕ). 2 ^ n) split-at)
-      (digits-lt above-lt (mod-lt w (pow-pos i)))
-
 -- ---- action by action
 
 module _ (t : List ℕ) (n : ℕ) (e : sound t n ≡ true) where
@@ -215,7 +193,7 @@ module _ (t : List ℕ) (n : ℕ) (e : sound t n ≡ true) where
         long = length-set t at.lines w;
         cores = getD-set-other t at.lines at.cores w 0 (omega arith);
         count = getD-set-other t at.lines at.refusals w 0 (omega arith);
-        is-sound = set-lines-sound t n e w (bit-below 24 (linesOf t) l v (header t n e .few-lines) h hv);
+        is-sound = set-lines-sound t n e w (put-below 24 (linesOf t) l v (header t n e .few-lines) h hv);
       }
 
   -- the refusal count

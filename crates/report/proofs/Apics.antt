@@ -26,7 +26,7 @@ use Rattle.apic.proofs.Registers.{vector-same, vector-other}
 use Rattle.report.specs.Configuration.{Apic, upd, withPorts, withInit, withSipi, withEoipending}
 use Rattle.report.specs.Components.{inside, bitAt, withBitAt, icr, isr, irr, min, atVector, written, ended, ΣApic, δapic}
 use Rattle.report.specs.View.{apicOf, SameApic}
-use Rattle.report.proofs.Bits.{byte-bit, byte-put, byte-apart, flag-set}
+use Rattle.apic.proofs.Bytes.{byte-bit, byte-put, byte-apart, flag-set}
 
 -- ---- agreement
 

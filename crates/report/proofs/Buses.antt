@@ -48,7 +48,7 @@ use Rattle.report.specs.Components.{bytes, ID, ICR, icr, withBitAt, isFo
 use Rattle.report.specs.Delta as report
 use Rattle.report.specs.View.{apicOf, processorOf, ioapicOf, view, SameApic, SameProcessor, Same}
 use Rattle.report.specs.Needs.{misses}
-use Rattle.report.proofs.Bits.{one-not-zero}
+use Rattle.apic.proofs.Bytes.{one-not-zero}
 use Rattle.report.proofs.Cases.{δx, adds-none, Case, is-a-step}
 use Rattle.report.proofs.Apics.{apic-refl, min-eoi, put-eoi, fixed-same, init-same, startup-same, idle-same}
 use Rattle.report.proofs.Frames.{SameIo, io-kept, redirect-at, processor-refl, passive, tables-same}

@@ -30,7 +30,7 @@ use Rattle.store_buffer.specs.declared.Read.the-variants.{There, Nowhere}
 use Rattle.store_buffer.specs.Buffer.{sbhit, maxsbhit, sbhazard}
 use Rattle.store_buffer.specs.System as system
 use Rattle.store_buffer.specs.System.{memoryByte, reads, isPort, onRead, loaded, aligned}
-use Rattle.store_buffer.proofs.Access.{InWord, aligned-word}
+use Rattle.store_buffer.proofs.Access.{never, reads-each, reads-missing, InWord, aligned-word}
 use Rattle.store_buffer.proofs.Pass.{or-true}
 use Rattle.tables.specs.Views.{coresOf}
 use Rattle.tables.specs.Sound.{soundBlock, sound}
@@ -46,6 +46,7 @@ use Rattle.cores.specs.declared.Plan.{Plan}
 use Rattle.cores.specs.Plans.{refused, finished}
 use Rattle.cores.specs.Core.{View, isEvent, vectorOf, suppressed, causes, physical, onLoad, onStore, onCas, storedFrom, exchanged, performed, isAccess, findsBuffer, avoidsPorts, hasHazard, dataRequestOf}
 use Rattle.cores.specs.Commit.{writtenTo}
+use Rattle.cores.proofs.Free.{free-there}
 use Rattle.cores.proofs.Decisions.{MayBeDone}
 use Rattle.cores.proofs.Locals.{whole-words}
 use Rattle.cores.proofs.Held.{same-offset}
@@ -58,8 +59,7 @@ use Rattle.report.specs.View.{view, processorOf, apicOf, ioapicOf, memor
 use Rattle.report.specs.Needs.{misses}
 use Rattle.report.specs.Demands.{Words}
 use Rattle.report.proofs.Cases.{Case}
-use Rattle.report.proofs.Memory.{nothing, reads-bytes, reads-each, reads-missing, memory-byte, memory-reads, one-missing, put-memory, never, seen-byte, unseen-byte, seen-there}
-use Rattle.report.proofs.Frames.{free-there}
+use Rattle.report.proofs.Memory.{nothing, reads-bytes, memory-byte, memory-reads, one-missing, put-memory, seen-byte, unseen-byte, seen-there}
 use Rattle.report.proofs.CoreFacts as facts
 use Rattle.report.proofs.CoreRefusals as guards
 use Rattle.report.proofs.CoreRefusals.{K, guarded, allow, is-word, at-address}

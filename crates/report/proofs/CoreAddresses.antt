@@ -24,7 +24,7 @@ use Rattle.records.specs.Records.{among}
 use Rattle.tlb.specs.Walks.{walkBa}
 use Rattle.store_buffer.specs.declared.Read.the-variants.{There, Nowhere}
 use Rattle.store_buffer.specs.System.{memoryByte, reads}
-use Rattle.store_buffer.proofs.Access.{memory-there}
+use Rattle.store_buffer.proofs.Access.{never, reads-each, memory-there}
 use Rattle.tables.specs.Views.{coresOf}
 use Rattle.tables.specs.Sound.{sound}
 use Rattle.tables.proofs.Parts.{records-of}
@@ -33,7 +33,6 @@ use Rattle.cores.specs.Core.{View, physical, isAccess}
 use Rattle.cores.proofs.Words.{general-at, pc-at}
 use Rattle.cores.proofs.Held.{held-base, used-base}
 use Rattle.report.specs.Demands.{Words}
-use Rattle.report.proofs.Memory.{never, reads-each}
 use Rattle.report.proofs.CoreFacts as facts
 
 -- a word at a multiple of four is in memory, or all of it is not

@@ -1,6 +1,7 @@
 -- Demand 2 for the step of the store buffer.
 -- Assumes nothing.
 use mathlib.Core.Path.{_≡_, refl, sym, _∙_, ap, ap₂, subst}
+use mathlib.Core.Logic.{⊎-elim}
 use mathlib.Core.Bool.{Bool, true, false, not, _&&_, _||_}
 use mathlib.Core.List.{List, [], _∷_}
 use Prim.Native.Nat.{ℕ, suc, _+_, _%_, _^_, _<_, _≤_}
@@ -14,14 +15,15 @@ use Rattle.layout.specs.Blocks.{block}
 use Rattle.records.specs.declared.Store.{Store}
 use Rattle.records.specs.Records.{all, stores, walks, among}
 use Rattle.records.specs.Contents.{localPort, ioPort, there, allThere, storeSound}
-use Rattle.records.proofs.Counts.{and-left, and-right}
+use Rattle.records.proofs.Counts.{and-left}
+use Rattle.records.proofs.Facts.{StoreFacts, store-facts}
 use Rattle.tables.specs.Views.{coresOf, linesOf, runningOf, registersOf}
 use Rattle.tables.specs.Sound.{sound}
 use Rattle.tables.proofs.Lift.{core-long, core-sound}
 use Rattle.tables.proofs.Steps.{block-stores}
 use Rattle.store_buffer.specs.declared.Target.the-variants as to
 use Rattle.store_buffer.specs.Leaving.{oldest, wordOnly, target}
-use Rattle.store_buffer.specs.System.{apicadr, ioapicadr, sized}
+use Rattle.store_buffer.specs.System.{apicadr, ioapicadr}
 use Rattle.ioapic.specs.IoApic.{writes}
 use Rattle.steps.specs.declared.Step.{Step}
 use Rattle.steps.specs.declared.Step.the-variants as kind
@@ -47,44 +49,22 @@ use Rattle.report.proofs.Memory.{inside-from, all-there-at, put-memory}
 use Rattle.report.proofs.Cases.{δx, Has, adds-none, Case, is-a-step}
 use Rattle.report.proofs.Frames.{SameIo, portWhole, apicWrite, io-still, io-moved, plan-processor, plan-same}
 
--- ---- a sound store
-
-record Sound (n : ℕ) (s : Store) : Type 0 where
-  wide : sized (s .width) ≡ true
-  multiple : s .address % s .width ≡ 0
-  all-there : allThere (s .width) n (s .address) ≡ true
-
-store-facts : (n : ℕ) (s : Store) → storeSound n s ≡ true → Sound n s
-unfolding storeSound
-store-facts n s e =
-    let f = and-right (sized (s .width)) _ e in
-    let g = and-right (eqb (s .address % s .width) 0) _ f in
-    record {
-      wide = and-left (sized (s .width)) _ e;
-      multiple = eqb-true (s .address % s .width) 0 (and-left (eqb (s .address % s .width) 0) _ f);
-      all-there = and-right (ltb (s .value) (256 ^ s .width)) _ g;
-    }
+-- ---- where a sound store goes
 
 -- a local port is none of the I/O APIC's
 one-port : (a : ℕ) → localPort a ≡ true → ioPort a ≡ false
 one-port a e = let l = leb-true 0xFFFF_F000 a (and-left (leb 0xFFFF_F000 a) _ e) in rw (le-leb 0xFFFF_E000 a (omega arith), le-ltb a 0xFFFF_E008 (omega arith))
 
--- the widths
-by-width : (P : ℕ → Type 0) → P 1 → P 2 → P 4 → (w : ℕ) → sized w ≡ true → P w
-by-width P p q r w e = go (eqb w 1) (eqb w 2) refl refl e
-  where
-    go : (x y : Bool) → eqb w 1 ≡ x → eqb w 2 ≡ y → (x || (y || eqb w 4)) ≡ true → P w
-    go true y f g e = subst P (sym (eqb-true w 1 f)) p
-    go false true f g e = subst P (sym (eqb-true w 2 g)) q
-    go false false f g e = subst P (sym (eqb-true w 4 e)) r
-
 -- one whose first byte is no port is in memory, whose bytes are whole words
-in-memory : (n : ℕ) (s : Store) → n % 4 ≡ 0 → Sound n s → localPort (s .address) ≡ false → ioPort (s .address) ≡ false → s .address + s .width ≤ n
+in-memory : (n : ℕ) (s : Store) → n % 4 ≡ 0 → StoreFacts n s → localPort (s .address) ≡ false → ioPort (s .address) ≡ false → s .address + s .width ≤ n
 in-memory n s q S l i =
     by-width (λ w. s .address % w ≡ 0 → allThere w n (s .address) ≡ true → s .address + w ≤ n)
     (λ m a. let h = first 0 a in omega arith) (λ m a. let h = first 1 a in omega arith) (λ m a. let h = first 3 a in omega arith)
-    (s .width) (S .wide) (S .multiple) (S .all-there)
+    (S .aligned) (S .inside)
   where
+    by-width : (P : ℕ → Type 0) → P 1 → P 2 → P 4 → P (s .width)
+    by-width P x y z = ⊎-elim (λ f. subst P (sym f) x) (⊎-elim (λ f. subst P (sym f) y) (λ f. subst P (sym f) z)) (S .wide)
+
     first : (d : ℕ) → allThere (suc d) n (s .address) ≡ true → s .address < n
     first d a = ltb-true (s .address) n (go (ltb (s .address) n) (and-left (there n (s .address)) _ a))
       where
@@ -94,7 +74,7 @@ in-memory n s q S l i =
 
 -- ---- the oldest store s
 
-module _ (t m : List ℕ) (e : sound t (length m) ≡ true) (k : ℕ) (h : k < coresOf t) (s : Store) (sb : List Store) (q : stores (block t k) ≡ s ∷ sb) (S : Sound (length m) s) where
+module _ (t m : List ℕ) (e : sound t (length m) ≡ true) (k : ℕ) (h : k < coresOf t) (s : Store) (sb : List Store) (q : stores (block t k) ≡ s ∷ sb) (S : StoreFacts (length m) s) where
   abbrev b : List ℕ
   b = block t k
 
@@ -112,7 +92,7 @@ module _ (t m : List ℕ) (e : sound t (length m) ≡ true) (k : ℕ) (h : k < c
   has M y = rw q (go (inside y a (s .width)) refl)
     where
       go : (i : Bool) → inside y a (s .width) ≡ i → noPlace n i y ≡ false
-      go true p = ap not (all-there-at (s .width) n a y (S .all-there) (inside-from y a (s .width) p .0) (inside-from y a (s .width) p .1))
+      go true p = ap not (all-there-at (s .width) n a y (S .inside) (inside-from y a (s .width) p .0) (inside-from y a (s .width) p .1))
       go false p = refl
 
   -- the configuration without it, by where it goes
@@ -164,7 +144,7 @@ module _ (t m : List ℕ) (e : sound t (length m) ≡ true) (k : ℕ) (h : k < c
   y = writes (ioapicadr a) (s .value)
 
   word : eqb (s .width) 4 ≡ true → a % 4 ≡ 0
-  word f = subst (λ (d : ℕ). a % d ≡ 0) (eqb-true (s .width) 4 f) (S .multiple)
+  word f = subst (λ (d : ℕ). a % d ≡ 0) (eqb-true (s .width) 4 f) (S .aligned)
 
   to-local : localPort a ≡ true → (z : Bool) → eqb (s .width) 4 ≡ z → MayBeDone n b (leavesTo s (if z then to.LocalPort (apicadr a) else to.Narrow)) →
       Case t m x (Planned k (leavesTo s (if z then to.LocalPort (apicadr a) else to.Narrow)))

@@ -1,15 +1,15 @@
 -- The view of tables after a step: of a core's block, of the header, and of a plan that is done.
 -- Assumes nothing.
 use mathlib.Core.Path.{_≡_, refl, sym, _∙_, ap, subst}
-use mathlib.Core.Bool.{Bool, true, false, not}
+use mathlib.Core.Bool.{Bool, true, false}
 use mathlib.Core.List.{List}
 use mathlib.Core.Logic.{inl, inr}
 use Prim.Native.Nat.{ℕ, _+_, _*_, _%_, _^_, _<_, _≤_}
 use lib.Dec.{eqb, ltb}
-use lib.ListN.{length, getD, set, drop, length-set, length-map}
+use lib.ListN.{length, getD, set, drop, length-set}
 use lib.Seq.{getD-set-same, getD-set-other, getD-take, getD-drop}
 use native.Mathlib.Omega.{arith}
-use borrow.Author.Tests.{ltb-true, ltb-false, eqb-true, eqb-false, ne-eqb}
+use borrow.Author.Tests.{ltb-true, ltb-false, eqb-true, eqb-false}
 use Rattle.word.specs.Word.{if_then_else_, bit, isSet}
 use Rattle.word.proofs.Tests.{or-false}
 use Rattle.layout.specs.Layout as at
@@ -20,11 +20,10 @@ use Rattle.isa.specs.Core.{sprAt, effect}
 use Rattle.isa.specs.Interrupts.{user, deltaJisr, deltaRfe}
 use Rattle.records.specs.declared.Store.{Store}
 use Rattle.records.specs.declared.Walk.{Walk}
-use Rattle.records.specs.Records.{chain, chainAt, storeIn, walkIn, linked, stores, walks, among}
+use Rattle.records.specs.Records.{stores, walks, among}
 use Rattle.records.proofs.Counts.{and-left, and-right, and-both}
 use Rattle.records.proofs.Frame.{Alike, same-stores, same-walks}
 use Rattle.records.proofs.Laws.{After}
-use Rattle.records.proofs.Good.{linked-good, all-31}
 use Rattle.tables.specs.Views.{coresOf, linesOf, registersOf, withRegisters, runningOf}
 use Rattle.tables.specs.Sound.{soundBlock, sound}
 use Rattle.tables.proofs.Places.{registers-same}
@@ -43,7 +42,6 @@ use Rattle.cores.specs.declared.WalkChange.the-variants.{Add, Drop}
 use Rattle.cores.specs.declared.Write.{Write}
 use Rattle.cores.specs.declared.Write.the-variants.{Memory, LocalPort, IoPort}
 use Rattle.cores.specs.declared.Plan.{Plan}
-use Rattle.cores.specs.Core.{isFree}
 use Rattle.cores.specs.Commit.{coreAfter, bufferAfter, walksAfter, portAfter, blockAfter, headerAfter, tablesAfter, memoryAfter, bufferReady, walksReady, portReady, ready}
 use Rattle.cores.proofs.Changes.{Full, effect-full, jisr-full, rfe-full, buffer-asks, walks-ask}
 use Rattle.cores.proofs.Adding.{or-other}
@@ -93,17 +91,6 @@ mode-same b =
 
 pub asid-same : (b : List ℕ) → sprAt (registersOf b) at.asid % 2 ^ 6 ≡ asidOf b
 asid-same b = ap (λ (x : ℕ). x % 2 ^ 6) (spr-at b at.asid (omega arith))
-
--- a record is free while fewer than 31 are in use
-pub free-there : (b : List ℕ) → length b ≡ 256 → linked b ≡ true → length (stores b) + length (walks b) < 31 → isFree b ≡ true
-unfolding stores walks chain
-free-there b long e h =
-    let G = linked-good b e long in
-    let l = all-31 (chainAt b at.storeHead) (chainAt b at.walkHead) (chainAt b at.freeHead) (G .three .once) (G .three .below) in
-    ap not (ne-eqb (getD b at.freeHead 0) 0 (λ q. omega (arith, l, none q, length-map (chainAt b at.storeHead) (storeIn b), length-map (chainAt b at.walkHead) (walkIn b))))
-  where
-    none : getD b at.freeHead 0 ≡ 0 → length (chainAt b at.freeHead) ≡ 0
-    none q = ap (λ (n : ℕ). length (chain 32 b n)) q
 
 -- ---- the I/O APIC
 

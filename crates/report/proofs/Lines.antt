@@ -38,7 +38,7 @@ use Rattle.report.specs.Components.{bytes, ID, ΣApic, δapic}
 use Rattle.report.specs.Delta as report
 use Rattle.report.specs.View.{apicOf, processorOf, ioapicOf, view, SameProcessor, Same}
 use Rattle.report.specs.Needs.{misses}
-use Rattle.report.proofs.Bits.{zero-not-one}
+use Rattle.apic.proofs.Bytes.{zero-not-one}
 use Rattle.report.proofs.Cases.{δx, adds-none, Case, is-a-step}
 use Rattle.report.proofs.Apics.{upd-case, apic-refl, fixed-same}
 use Rattle.report.proofs.Frames.{io-refl, io-then, io-kept, redirect-at, entry-same, processor-of, processor-refl, passive, tables-same}

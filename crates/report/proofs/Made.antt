@@ -20,10 +20,10 @@ use Rattle.records.proofs.Facts.{all-at}
 use Rattle.tables.specs.Views.{registersOf, runningOf, portByte}
 use Rattle.tables.specs.Make.{chained, madeBlock, madeBlocks, made}
 use Rattle.tables.proofs.Fresh.{block-long}
-use Rattle.tables.proofs.Reset.{made-block, made-registers, made-running, made-stores, made-walks}
+use Rattle.tables.proofs.Reset.{made-sound, made-block, made-registers, made-running, made-stores, made-walks}
 use Rattle.report.specs.Components.{bytes, ID, ICR, bitAt, irr, isr}
 use Rattle.report.specs.View.{apicOf, processorOf, ioapicOf, view}
-use Rattle.report.specs.Demands.{Resets}
+use Rattle.report.specs.Demands.{Reset, Resets}
 use Rattle.report.proofs.Frames.{redirect-at}
 
 -- no bit of 0 is set
@@ -75,37 +75,41 @@ header-word n p (suc (suc x)) l h = List·getD-append (replicate 30 0) (madeBloc
 entry-bit : (n p k j : ℕ) → k < 24 → bit (ioapicOf (made n p) .redirect k) j ≡ 0
 entry-bit n p k j h = ap (λ (x : ℕ). bit x j) (redirect-at (made n p) k h ∙ header-word n p (6 + k) (omega arith) (omega arith)) ∙ no-bit j
 
+module _ (n p : ℕ) (some : 1 ≤ n) (few : n ≤ 4) (m : List ℕ) (M : ℕ → ℕ) where
+  is : (i : ℕ) → i < n → block (made n p) i ≡ madeBlock i
+  is i h = made-block n p i h
+
+  on : {A : Type 0} (i : ℕ) → i < n → (f : List ℕ → A) → f (block (made n p) i) ≡ f (madeBlock i)
+  on i h f = ap f (is i h)
+
+  core : (i : ℕ) → i < n → (f : Registers → ℕ) → f (registersOf (block (made n p) i)) ≡ f (record { gpr = replicate 32 0; spr = replicate 32 0; pc = 0; hi = 0; lo = 0 })
+  core i h f = ap (λ (b : List ℕ). f (registersOf b)) (is i h) ∙ ap f (made-registers i)
+
+  waits : (i : ℕ) → 1 ≤ i → i < n → eqb (runningOf (block (made n p) i)) 1 ≡ false
+  waits zero l h = absurd (omega arith)
+  waits (suc i) l h = ap (λ (b : List ℕ). eqb (runningOf b) 1) (is (suc i) h) ∙ ap (λ (x : ℕ). eqb x 1) (made-running (suc i))
+
+  after-reset : Reset (view (made n p) m M)
+  unfolding view processorOf made among
+  after-reset =
+      record {
+        pc = λ i h. core i h (λ r. r .pc);
+        running = on 0 some (λ b. eqb (runningOf b) 1) ∙ ap (λ (x : ℕ). eqb x 1) (made-running 0);
+        waiting = waits;
+        mode = λ i h. core i h (λ r. sprAt r at.mode);
+        sb = λ i h. ap stores (is i h) ∙ made-stores i;
+        tlb = λ i h w. ap (λ (b : List ℕ). among w (walks b)) (is i h) ∙ ap (among w) (made-walks i);
+        rirr = λ k h. entry-bit n p k 14 h;
+        ds = λ k h. entry-bit n p k 12 h;
+        mask = λ k h. entry-bit n p k 16 h;
+        IRR = λ i h j l. ap (λ (b : List ℕ). bitAt irr (apicOf b) j) (is i h) ∙ no-vector irr i j (omega arith) (omega arith) l;
+        ISR = λ i h j l. ap (λ (b : List ℕ). bitAt isr (apicOf b) j) (is i h) ∙ no-vector isr i j (omega arith) (omega arith) l;
+        ICR-zero = λ i h. ap (λ (b : List ℕ). ICR (apicOf b)) (is i h) ∙ no-icr i;
+        APIC-ID = λ i h. ap (λ (b : List ℕ). ID (apicOf b)) (is i h) ∙ id-is i (omega arith);
+        dev = λ k h. ap (λ (x : ℕ). eqb x 1) (no-bit k);
+      }
+
 pub resets : Resets
-unfolding view processorOf made among
-resets n p some few m M = (
-  refl,
-  record {
-    pc = λ i h. core i h (λ r. r .pc);
-    running = on 0 some (λ b. eqb (runningOf b) 1) ∙ ap (λ (x : ℕ). eqb x 1) (made-running 0);
-    waiting = waits;
-    mode = λ i h. core i h (λ r. sprAt r at.mode);
-    sb = λ i h. ap stores (is i h) ∙ made-stores i;
-    tlb = λ i h w. ap (λ (b : List ℕ). among w (walks b)) (is i h) ∙ ap (among w) (made-walks i);
-    rirr = λ k h. entry-bit n p k 14 h;
-    ds = λ k h. entry-bit n p k 12 h;
-    mask = λ k h. entry-bit n p k 16 h;
-    IRR = λ i h j l. ap (λ (b : List ℕ). bitAt irr (apicOf b) j) (is i h) ∙ no-vector irr i j (omega arith) (omega arith) l;
-    ISR = λ i h j l. ap (λ (b : List ℕ). bitAt isr (apicOf b) j) (is i h) ∙ no-vector isr i j (omega arith) (omega arith) l;
-    ICR-zero = λ i h. ap (λ (b : List ℕ). ICR (apicOf b)) (is i h) ∙ no-icr i;
-    APIC-ID = λ i h. ap (λ (b : List ℕ). ID (apicOf b)) (is i h) ∙ id-is i (omega arith);
-    dev = λ k h. ap (λ (x : ℕ). eqb x 1) (no-bit k);
-  },
-)
-  where
-    is : (i : ℕ) → i < n → block (made n p) i ≡ madeBlock i
-    is i h = made-block n p i h
-
-    on : {A : Type 0} (i : ℕ) → i < n → (f : List ℕ → A) → f (block (made n p) i) ≡ f (madeBlock i)
-    on i h f = ap f (is i h)
-
-    core : (i : ℕ) → i < n → (f : Registers → ℕ) → f (registersOf (block (made n p) i)) ≡ f (record { gpr = replicate 32 0; spr = replicate 32 0; pc = 0; hi = 0; lo = 0 })
-    core i h f = ap (λ (b : List ℕ). f (registersOf b)) (is i h) ∙ ap f (made-registers i)
-
-    waits : (i : ℕ) → 1 ≤ i → i < n → eqb (runningOf (block (made n p) i)) 1 ≡ false
-    waits zero l h = absurd (omega arith)
-    waits (suc i) l h = ap (λ (b : List ℕ). eqb (runningOf b) 1) (is (suc i) h) ∙ ap (λ (x : ℕ). eqb x 1) (made-running (suc i))
+unfolding view made
+resets n p some few pages most =
+    record { is-sound = made-sound n p some few pages most; np = λ m M. refl; reset = after-reset n p some few }

@@ -26,14 +26,14 @@ use Rattle.tlb.specs.declared.Entry.the-variants.{Word, Missing}
 use Rattle.tlb.specs.declared.Verdict.{Verdict}
 use Rattle.tlb.specs.declared.Verdict.the-variants.{Faults, Passes, Undecided}
 use Rattle.tlb.specs.Walks.{complete, hit, ptea, entryAt, entryFault, faultBy, wextFault}
-use Rattle.tlb.proofs.Fields.{ptea-aligned}
+use Rattle.tlb.proofs.Fields.{ptea-aligned, ptea-low}
 use Rattle.store_buffer.specs.declared.Read.{Read}
 use Rattle.store_buffer.specs.declared.Read.the-variants.{There, Nowhere}
 use Rattle.store_buffer.specs.declared.Hit.{Hit}
 use Rattle.store_buffer.specs.declared.Hit.the-variants.{At, Miss}
 use Rattle.store_buffer.specs.Buffer.{sbhit, sbv, maxsbhit, forwardedBy}
 use Rattle.store_buffer.specs.System.{Ports, portsOf, memoryByte, join, reads, apicadr, ioapicadr, apicByte, ioapicByte, beneath, msOf, ms}
-use Rattle.store_buffer.proofs.Access.{reads-step, memory-there}
+use Rattle.store_buffer.proofs.Access.{never, memory-there}
 use Rattle.store_buffer.proofs.Hits.{none-hits}
 use Rattle.tables.specs.Views.{portByte, ioregselOf, iowinOf}
 use Rattle.report.specs.Configuration.{IoApic}
@@ -42,10 +42,6 @@ use Rattle.report.specs.Components.{bytes, inside, fault, theByte, iopor
 use Rattle.report.specs.View.{memoryOf, apicOf, ioapicOf}
 
 -- ---- reads
-
--- a constructor is no other
-pub never : {A : Type 0} {v : ℕ} → Nowhere ≡ There v → A
-never e = absurd (let z : _≡_ {A = ℕ} 0 1 = cc in omega arith)
 
 -- a read of d bytes is the report's where each byte is
 pub reads-bytes : (f : ℕ → Read) (g : ℕ → ℕ) → ((x v : ℕ) → f x ≡ There v → g x ≡ v) → (d a v : ℕ) → reads d f a ≡ There v → bytes d g a ≡ v
@@ -59,38 +55,6 @@ reads-bytes f g h (suc d) a v e = go (f a) (reads d f (plus 32 a 1)) refl (reads
         ap (λ (n : ℕ). n + 256 * bytes d g (plus 32 a 1)) (h a x p) ∙ (ap (λ (n : ℕ). x + 256 * n) (q y refl) ∙ z)
     go (There x) Nowhere p q k = never k
     go Nowhere s p q k = never k
-
--- each byte of a read that is there is there
-pub reads-each : (f : ℕ → Read) (d a v : ℕ) → a + d ≤ 2 ^ 32 → reads d f a ≡ There v → (j : ℕ) → j < d → (x : ℕ) × (f (a + j) ≡ There x)
-reads-each f zero a v l e j h = absurd (omega arith)
-reads-each f (suc d) a v l e j h =
-    go (f a) (reads d f (a + 1)) refl (λ y q. reads-each f d (a + 1) y (omega arith) q) (sym (reads-step d f a l) ∙ e) j h
-  where
-    go : (r s : Read) → f a ≡ r → ((y : ℕ) → s ≡ There y → (j : ℕ) → j < d → (x : ℕ) × (f (a + 1 + j) ≡ There x)) → join r s ≡ There v →
-        (j : ℕ) → j < suc d → (x : ℕ) × (f (a + j) ≡ There x)
-    go (There x) (There y) p q k zero h = let z : a + 0 ≡ a = omega arith in (x, ap f z ∙ p)
-    go (There x) (There y) p q k (suc j) h =
-        let z : a + suc j ≡ a + 1 + j = omega arith in
-        let r = q y refl j (omega arith) in
-        (r .0, ap f z ∙ r .1)
-    go (There x) Nowhere p q k j h = never k
-    go Nowhere s p q k j h = never k
-
--- of one that is nowhere, some byte is
-pub reads-missing : (f : ℕ → Read) (d a : ℕ) → a + d ≤ 2 ^ 32 → reads d f a ≡ Nowhere → (j : ℕ) × (j < d) × (f (a + j) ≡ Nowhere)
-unfolding reads
-reads-missing f zero a l e = never (sym e)
-reads-missing f (suc d) a l e =
-    go (f a) (reads d f (a + 1)) refl (λ q. reads-missing f d (a + 1) (omega arith) q) (sym (reads-step d f a l) ∙ e)
-  where
-    go : (r s : Read) → f a ≡ r → (s ≡ Nowhere → (j : ℕ) × (j < d) × (f (a + 1 + j) ≡ Nowhere)) → join r s ≡ Nowhere →
-        (j : ℕ) × (j < suc d) × (f (a + j) ≡ Nowhere)
-    go Nowhere s p q k = let z : a + 0 ≡ a = omega arith in (0, omega arith, ap f z ∙ p)
-    go (There x) Nowhere p q k =
-        let r = q refl in
-        let z : a + suc (r .0) ≡ a + 1 + r .0 = omega arith in
-        (suc (r .0), omega (arith, r .1), ap f z ∙ r .2)
-    go (There x) (There y) p q k = never (sym k)
 
 -- ---- memory, with M beyond it
 
@@ -203,10 +167,6 @@ put-memory d m M a v x l =
     (side x (length m))
 
 -- ---- entries and faults
-
-pub ptea-low : (w : Walk) → ptea w + 4 ≤ 2 ^ 32
-unfolding ptea
-ptea-low w = omega (arith, ptea-aligned w)
 
 -- the report's fault, where the entry is consulted and where not
 abbrev pub consulted : Request → Walk → Bool

@@ -26,7 +26,7 @@ use Rattle.tlb.specs.declared.Decision.{Decision}
 use Rattle.tlb.specs.declared.Decision.the-variants as tlb
 use Rattle.tlb.specs.Walks.{baseAddress, pteA, pteP, ptea, entryAt, walkAsid, complete, winit, wext, wextFault, suffices, set-d}
 use Rattle.tlb.specs.Steps.{userMode, runs, asidOf, originOf, extendable, tlbCreate, onExtend, tlbExtend, onAccessed, tlbAccessed}
-use Rattle.tlb.proofs.Fields.{same-walk, ptea-aligned}
+use Rattle.tlb.proofs.Fields.{same-walk, ptea-aligned, ptea-low}
 use Rattle.word.proofs.Words.{Words}
 use Rattle.ioapic.proofs.Blocks.{block-words}
 use Rattle.steps.specs.declared.Answer.the-variants.{Refused}
@@ -42,6 +42,7 @@ use Rattle.cores.specs.Plans.{refused, done}
 use Rattle.cores.specs.Core.{isFree}
 use Rattle.cores.specs.Walks.{adding, planned}
 use Rattle.cores.specs.Commit.{writtenTo}
+use Rattle.cores.proofs.Free.{free-there}
 use Rattle.cores.proofs.Decisions.{MayBeDone, create-plan, extend-plan, accessed-plan}
 use Rattle.machine.specs.declared.action.Action.the-variants.{Planned}
 use Rattle.machine.specs.Actions.{tablesAfter, memoryAfter}
@@ -53,10 +54,9 @@ use Rattle.report.specs.Delta as report
 use Rattle.report.specs.View.{processorOf, ioapicOf, memoryOf, view, Same}
 use Rattle.report.specs.Needs.{noByte, misses}
 use Rattle.report.specs.Demands.{Adds, Crowded}
-use Rattle.report.proofs.Bits.{and-assoc, and-comm, and-swap}
-use Rattle.report.proofs.Memory.{memory-out, memory-bytes, bytes-step, inside-from, inside-is, put-memory, ptea-low}
+use Rattle.report.proofs.Memory.{memory-out, memory-bytes, bytes-step, inside-from, inside-is, put-memory}
 use Rattle.report.proofs.Cases.{δx, Has, Roomy, adds-none, Case, is-a-step}
-use Rattle.report.proofs.Frames.{spr-at, mode-same, asid-same, free-there, io-still, plan-processor, plan-same, plan-memory-same}
+use Rattle.report.proofs.Frames.{spr-at, mode-same, asid-same, io-still, plan-processor, plan-same, plan-memory-same}
 
 -- ---- the walks as a set
 
@@ -217,6 +217,21 @@ module _ (t m : List ℕ) (e : sound t (length m) ≡ true) (w : Walk) where
 
     any-entry : bytes 4 (memoryOf m ones) (ptea w) ≡ 2 ^ 32 - 1
     any-entry = bytes-ones m (ptea w) (ptea-low w) beyond
+
+-- ---- guards in any order
+
+and-assoc : (a b c : Bool) → (a && b) && c ≡ a && (b && c)
+and-assoc true b c = refl
+and-assoc false b c = refl
+
+and-comm : (a b : Bool) → a && b ≡ b && a
+and-comm true true = refl
+and-comm true false = refl
+and-comm false true = refl
+and-comm false false = refl
+
+and-swap : (a b c : Bool) → a && (b && c) ≡ b && (a && c)
+and-swap a b c = sym (and-assoc a b c) ∙ ap (λ (x : Bool). x && c) (and-comm a b) ∙ and-assoc b a c
 
 -- ---- tlb-extend
 

@@ -14,7 +14,7 @@
 use mathlib.Core.Path.{_≡_}
 use mathlib.Core.Bool.{Bool, true, false, _&&_}
 use mathlib.Core.List.{List, []}
-use Prim.Native.Nat.{ℕ, _+_, _-_, _^_, _<_, _≤_}
+use Prim.Native.Nat.{ℕ, _+_, _-_, _*_, _^_, _<_, _≤_}
 use lib.Dec.{eqb, ltb, leb}
 use lib.ListN.{length, getD}
 use Rattle.word.specs.Word.{if_then_else_, bit}
@@ -191,6 +191,11 @@ pub record Reset (c : Configuration) : Type 0 where
   pub APIC-ID : (i : ℕ) → i < c .np → ID (c .p i .apic) ≡ i
   pub dev : (k : ℕ) → k < lineCount → c .irq k ≡ false  -- a device is its line (01)
 
--- a machine of n cores and p pages as made, beside any memory
+-- a machine of n cores and p pages as made is sound, and beside any memory as after reset
+pub record Fresh (n p : ℕ) : Type 0 where
+  pub is-sound : sound (made n p) (at.pageBytes * p) ≡ true
+  pub np : (m : List ℕ) (M : ℕ → ℕ) → view (made n p) m M .np ≡ n
+  pub reset : (m : List ℕ) (M : ℕ → ℕ) → Reset (view (made n p) m M)
+
 abbrev pub Resets : Type 0
-Resets = (n p : ℕ) → 1 ≤ n → n ≤ 4 → (m : List ℕ) (M : ℕ → ℕ) → (view (made n p) m M .np ≡ n) × Reset (view (made n p) m M)
+Resets = (n p : ℕ) → 1 ≤ n → n ≤ at.mostCores → 1 ≤ p → p ≤ at.mostPages → Fresh n p

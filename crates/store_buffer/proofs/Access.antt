@@ -152,3 +152,41 @@ pub part-all : (v k d : ℕ) → v < 2 ^ 32 → sized d ≡ true → d ≢ 1 →
 part-all v k d h e p q =
     let four : d ≡ 4 = ⊎-elim (λ r. absurd (p r)) (⊎-elim (λ r. absurd (q r)) (λ r. r)) (sized-cases d e) in
     ap (λ (n : ℕ). v / 256 ^ k % 256 ^ n) four ∙ mod-eq-of-lt (omega (arith, div-le-self v (256 ^ k)))
+
+-- ---- which bytes are there
+
+-- a constructor is no other
+pub never : {A : Type 0} {v : ℕ} → Nowhere ≡ There v → A
+never e = absurd (let z : _≡_ {A = ℕ} 0 1 = cc in omega arith)
+
+-- each byte of a read that is there is there
+pub reads-each : (f : ℕ → Read) (d a v : ℕ) → a + d ≤ 2 ^ 32 → reads d f a ≡ There v → (j : ℕ) → j < d → (x : ℕ) × (f (a + j) ≡ There x)
+reads-each f zero a v l e j h = absurd (omega arith)
+reads-each f (suc d) a v l e j h =
+    go (f a) (reads d f (a + 1)) refl (λ y q. reads-each f d (a + 1) y (omega arith) q) (sym (reads-step d f a l) ∙ e) j h
+  where
+    go : (r s : Read) → f a ≡ r → ((y : ℕ) → s ≡ There y → (j : ℕ) → j < d → (x : ℕ) × (f (a + 1 + j) ≡ There x)) → join r s ≡ There v →
+        (j : ℕ) → j < suc d → (x : ℕ) × (f (a + j) ≡ There x)
+    go (There x) (There y) p q k zero h = let z : a + 0 ≡ a = omega arith in (x, ap f z ∙ p)
+    go (There x) (There y) p q k (suc j) h =
+        let z : a + suc j ≡ a + 1 + j = omega arith in
+        let r = q y refl j (omega arith) in
+        (r .0, ap f z ∙ r .1)
+    go (There x) Nowhere p q k j h = never k
+    go Nowhere s p q k j h = never k
+
+-- of one that is nowhere, some byte is
+pub reads-missing : (f : ℕ → Read) (d a : ℕ) → a + d ≤ 2 ^ 32 → reads d f a ≡ Nowhere → (j : ℕ) × (j < d) × (f (a + j) ≡ Nowhere)
+unfolding reads
+reads-missing f zero a l e = never (sym e)
+reads-missing f (suc d) a l e =
+    go (f a) (reads d f (a + 1)) refl (λ q. reads-missing f d (a + 1) (omega arith) q) (sym (reads-step d f a l) ∙ e)
+  where
+    go : (r s : Read) → f a ≡ r → (s ≡ Nowhere → (j : ℕ) × (j < d) × (f (a + 1 + j) ≡ Nowhere)) → join r s ≡ Nowhere →
+        (j : ℕ) × (j < suc d) × (f (a + j) ≡ Nowhere)
+    go Nowhere s p q k = let z : a + 0 ≡ a = omega arith in (0, omega arith, ap f z ∙ p)
+    go (There x) Nowhere p q k =
+        let r = q refl in
+        let z : a + suc (r .0) ≡ a + 1 + r .0 = omega arith in
+        (suc (r .0), omega (arith, r .1), ap f z ∙ r .2)
+    go (There x) (There y) p q k = never (sym k)

@@ -98,6 +98,10 @@ module _ (w : Walk) where
   unfolding ptea
   ptea-aligned = omega arith
 
+  pub ptea-low : ptea w + 4 ≤ 2 ^ 32
+  unfolding ptea
+  ptea-low = omega (arith, ptea-aligned)
+
   -- and lies in the walk's page
   module _ (h : w .first < 2 ^ 32) (k : walkBa w < 2 ^ 20) where
     pub ptea-at : ptea w ≡ 4096 * walkBa w + 4 * index w
