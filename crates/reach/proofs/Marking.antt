@@ -6,12 +6,11 @@ use mathlib.Core.List.{List, [], _∷_, _++_, flatMap, append-assoc}
 use Prim.Native.Nat.{ℕ, _+_, _*_, _/_, _%_, _<_, _≤_}
 use native.Mathlib.Omega.{arith}
 use native.Mathlib.Numerals.{add-one}
-use lib.Dec.{ltb, leb}
-use lib.ListN.{length, set, length-set}
+use lib.Dec.{eqb, ltb, leb}
+use lib.ListN.{length, getD, set, length-set}
 use borrow.Author.Tests.{lt-ltb, le-ltb, le-leb}
 use Rattle.word.specs.Word.{if_then_else_}
 use Rattle.word.specs.Bytes.{bytesAt}
-use Rattle.tlb.specs.declared.Entry.{Entry}
 use Rattle.tlb.specs.declared.Entry.the-variants.{Word}
 use Rattle.tlb.specs.Walks.{entryAt, pteaAt, pteP}
 use Rattle.reach.specs.Lists.{range}
@@ -112,9 +111,6 @@ beside-first A = record { left = A .left; beyond = A .beyond }
 pub marked-beside : {n : ℕ} {s e f : List ℕ} {p q : Bool} {u v : List Name} → Marked n s e p u → Beside n p e f q v → Marked n s f q (u ++ v)
 marked-beside A B = beside-first (beside-then (record { left = A .left; beyond = A .beyond }) B)
 
-pub beside-long : {n : ℕ} {b : Bool} {s e : List ℕ} {r : Bool} {l : List Name} → Beside n b s e r l → length e ≡ length s
-beside-long {n} {b} {s} {e} {r} {l} A = ap length (A .left) ∙ marks-long n s l
-
 -- ---- entries
 
 pub entry-there : (n k e : ℕ) (s g : List ℕ) (b r t : Bool) → t ≡ pteP e → t ≡ true → Beside n b s g r (name k (e / 4096) (e / 256 % 2) ∷ []) → Beside n b s g r (entryName k (Word e))
@@ -126,29 +122,33 @@ name-absent k e h = rw h
 pub entry-absent : (n k e : ℕ) (s : List ℕ) (b t : Bool) → t ≡ pteP e → t ≡ false → Beside n b s s b (entryName k (Word e))
 entry-absent n k e s b t p q = subst (Beside n b s s b) (sym (name-absent k e (sym p ∙ q))) (beside-none n b s)
 
--- four words read one after the other: present or not; all absent
-pub four-there : (n k : ℕ) (m : List ℕ) (at v₁ v₂ v₃ v₄ : ℕ) {b r₁ r₂ r₃ r₄ : Bool} {s s₁ s₂ s₃ s₄ : List ℕ}
-    → v₁ ≡ bytesAt 4 m at → v₂ ≡ bytesAt 4 m (at + 4) → v₃ ≡ bytesAt 4 m (at + 8) → v₄ ≡ bytesAt 4 m (at + 12)
-    → Beside n b s s₁ r₁ (entryName k (Word v₁)) → Beside n r₁ s₁ s₂ r₂ (entryName k (Word v₂))
-    → Beside n r₂ s₂ s₃ r₃ (entryName k (Word v₃)) → Beside n r₃ s₃ s₄ r₄ (entryName k (Word v₄)) → Beside n b s s₄ r₄ (fourNames k m at)
-unfolding fourNames
-four-there n k m at v₁ v₂ v₃ v₄ {b} {r₁} {r₂} {r₃} {r₄} {s} {s₁} {s₂} {s₃} {s₄} e₁ e₂ e₃ e₄ A B C D =
-    subst (Beside n b s s₄ r₄) (ap₂ _++_ (named e₁) (ap₂ _++_ (named e₂) (ap₂ _++_ (named e₃) (named e₄)))) (beside-then A (beside-then B (beside-then C D)))
-  where
-    named : {v w : ℕ} → v ≡ w → entryName k (Word v) ≡ entryName k (Word w)
-    named e = ap (λ (z : ℕ). entryName k (Word z)) e
+pub entry-read : (n k : ℕ) (m : List ℕ) (at v : ℕ) {b r : Bool} {s e : List ℕ} → v ≡ bytesAt 4 m at → Beside n b s e r (entryName k (Word v)) → Beside n b s e r (nameFrom k m at)
+entry-read n k m at v {b} {r} {s} {e} f A = subst (λ (z : ℕ). Beside n b s e r (entryName k (Word z))) f A
 
-pub four-absent : (n k : ℕ) (m : List ℕ) (at v₁ v₂ v₃ v₄ : ℕ) (s : List ℕ) (b t₁ t₂ t₃ t₄ : Bool)
-    → v₁ ≡ bytesAt 4 m at → v₂ ≡ bytesAt 4 m (at + 4) → v₃ ≡ bytesAt 4 m (at + 8) → v₄ ≡ bytesAt 4 m (at + 12)
-    → t₁ ≡ pteP v₁ → t₂ ≡ pteP v₂ → t₃ ≡ pteP v₃ → t₄ ≡ pteP v₄ → ((t₁ || t₂) || t₃) || t₄ ≡ false → Beside n b s s b (fourNames k m at)
-four-absent n k m at v₁ v₂ v₃ v₄ s b t₁ t₂ t₃ t₄ e₁ e₂ e₃ e₄ p₁ p₂ p₃ p₄ none =
+-- bit 11 of a word, in its second byte
+pub present-byte : (m : List ℕ) (at : ℕ) → getD m at 0 < 256 → eqb (getD m (at + 1) 0 / 8 % 2) 1 ≡ pteP (bytesAt 4 m at)
+present-byte m at h =
+    let e : getD m (at + 1) 0 / 8 % 2 ≡ bytesAt 4 m at / 2048 % 2 = omega arith in
+    ap (λ (z : ℕ). eqb z 1) e
+
+-- four entries one after the other; all absent
+pub four-there : (n k : ℕ) (m : List ℕ) (at : ℕ) {b r₁ r₂ r₃ r₄ : Bool} {s s₁ s₂ s₃ s₄ : List ℕ}
+    → Beside n b s s₁ r₁ (nameFrom k m at) → Beside n r₁ s₁ s₂ r₂ (nameFrom k m (at + 4)) → Beside n r₂ s₂ s₃ r₃ (nameFrom k m (at + 8)) → Beside n r₃ s₃ s₄ r₄ (nameFrom k m (at + 12))
+    → Beside n b s s₄ r₄ (fourNames k m at)
+unfolding fourNames
+four-there n k m at A B C D = beside-then A (beside-then B (beside-then C D))
+
+pub four-absent : (n k : ℕ) (m : List ℕ) (at : ℕ) (s : List ℕ) (b t₁ t₂ t₃ t₄ : Bool)
+    → t₁ ≡ pteP (bytesAt 4 m at) → t₂ ≡ pteP (bytesAt 4 m (at + 4)) → t₃ ≡ pteP (bytesAt 4 m (at + 8)) → t₄ ≡ pteP (bytesAt 4 m (at + 12))
+    → ((t₁ || t₂) || t₃) || t₄ ≡ false → Beside n b s s b (fourNames k m at)
+four-absent n k m at s b t₁ t₂ t₃ t₄ p₁ p₂ p₃ p₄ none =
     let h₃ = or-none-left ((t₁ || t₂) || t₃) t₄ none in
     let h₂ = or-none-left (t₁ || t₂) t₃ h₃ in
-    four-there n k m at v₁ v₂ v₃ v₄ e₁ e₂ e₃ e₄
-    (entry-absent n k v₁ s b t₁ p₁ (or-none-left t₁ t₂ h₂))
-    (entry-absent n k v₂ s b t₂ p₂ (or-none-right t₁ t₂ h₂))
-    (entry-absent n k v₃ s b t₃ p₃ (or-none-right (t₁ || t₂) t₃ h₃))
-    (entry-absent n k v₄ s b t₄ p₄ (or-none-right ((t₁ || t₂) || t₃) t₄ none))
+    four-there n k m at
+    (entry-absent n k (bytesAt 4 m at) s b t₁ p₁ (or-none-left t₁ t₂ h₂))
+    (entry-absent n k (bytesAt 4 m (at + 4)) s b t₂ p₂ (or-none-right t₁ t₂ h₂))
+    (entry-absent n k (bytesAt 4 m (at + 8)) s b t₃ p₃ (or-none-right (t₁ || t₂) t₃ h₃))
+    (entry-absent n k (bytesAt 4 m (at + 12)) s b t₄ p₄ (or-none-right ((t₁ || t₂) || t₃) t₄ none))
 
 -- the entry i of the table in page x
 abbrev pub nameAt : ℕ → List ℕ → ℕ → ℕ → List Name

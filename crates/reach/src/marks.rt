@@ -1,12 +1,14 @@
 // Three sets of pages as marks in one array of bytes, 8,192 a set: first-level tables, second-level tables, data (specs/Marks.antt).
-// A mark is a plain store of 1, so that a table page is read once, entry by entry.
+// A mark is a plain store of 1, so that a table page is gone through once, entry by entry.
 ghost use mathlib.Core.Path.{_≡_};
 ghost use mathlib.Core.List.{[], _∷_};
 ghost use mathlib.Core.List as lists;
 ghost use Prim.Native.Nat.{_+_, _*_, _<_, _≤_};
 ghost use lib.ListN.{length};
 ghost use Rattle.word.specs.Word.{flag};
+ghost use Rattle.word.specs.Bytes.{bytesAt};
 ghost use Rattle.tlb.specs.declared.Entry.{Entry};
+ghost use Rattle.tlb.specs.Walks.{pteP};
 ghost use Rattle.reach.specs.Lists.{range};
 ghost use Rattle.reach.specs.Marks as x;
 
@@ -42,20 +44,32 @@ fn mark_entry(s: &mut [u8], pages: u32, kind: u32, e: u32, beyond: bool) -> bool
     beyond
 }
 
-// Marks the pages that the four entries from an address on name. Most tables are sparse: one test passes over four absent entries.
+// Whether the entry at an address is present, by the one byte that says so.
+fn is_present(m: &[u8], at: usize) -> bool
+    requires { ⌜ at + 4 ≤ length (now m) ⌝ }
+    ensures { λ r. ⌜ r ≡ pteP (bytesAt 4 (now (m .entry)) at) ⌝ }
+{
+    m[at + 1] / 8 % 2 == 1
+}
+
+// Marks the page that the entry at an address names, as mark_entry does.
+fn mark_at(s: &mut [u8], m: &[u8], pages: u32, kind: u32, at: usize, beyond: bool) -> bool
+    requires { ⌜ (length (now s) ≡ 24576) × (pages ≤ 4096) × (kind < 3) × (at + 4 ≤ length (now m)) ⌝ }
+    ensures { λ r. ⌜ x.Beside pages beyond (now (s .entry)) (now (s .exit)) r (x.nameFrom kind (now (m .entry)) at) ⌝ }
+{
+    mark_entry(s, pages, kind, word::read_word(m, at), beyond)
+}
+
+// Marks the pages that the four entries from an address on name; one test passes over four that are absent.
 fn mark_four(s: &mut [u8], m: &[u8], pages: u32, kind: u32, at: usize, beyond: bool) -> bool
     requires { ⌜ (length (now s) ≡ 24576) × (pages ≤ 4096) × (kind < 3) × (at + 16 ≤ length (now m)) ⌝ }
     ensures { λ r. ⌜ x.Beside pages beyond (now (s .entry)) (now (s .exit)) r (x.fourNames kind (now (m .entry)) at) ⌝ }
 {
-    let a = word::read_word(m, at);
-    let b = word::read_word(m, at + 4);
-    let c = word::read_word(m, at + 8);
-    let d = word::read_word(m, at + 12);
-    if tlb::present(a) | tlb::present(b) | tlb::present(c) | tlb::present(d) {
-        let one = mark_entry(s, pages, kind, a, beyond);
-        let two = mark_entry(s, pages, kind, b, one);
-        let three = mark_entry(s, pages, kind, c, two);
-        return mark_entry(s, pages, kind, d, three);
+    if is_present(m, at) | is_present(m, at + 4) | is_present(m, at + 8) | is_present(m, at + 12) {
+        let one = mark_at(s, m, pages, kind, at, beyond);
+        let two = mark_at(s, m, pages, kind, at + 4, one);
+        let three = mark_at(s, m, pages, kind, at + 8, two);
+        return mark_at(s, m, pages, kind, at + 12, three);
     }
     beyond
 }

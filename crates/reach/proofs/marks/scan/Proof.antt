@@ -1,6 +1,5 @@
 -- `reach::marks::scan` meets its contract. The invariant: what the entries below 4 * i name is marked.
 -- Assumes nothing.
-
 use mathlib.Core.Path.{_∙_}
 use Prim.Native.Nat.{_-_, _*_, _≤_}
 use native.Mathlib.Omega.{arith}
