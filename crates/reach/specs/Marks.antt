@@ -8,6 +8,7 @@ use Prim.Native.Nat.{ℕ, _+_, _-_, _*_, _/_, _%_}
 use lib.Dec.{eqb, ltb}
 use lib.ListN.{getD, set}
 use Rattle.word.specs.Word.{if_then_else_, flag, isSet}
+use Rattle.word.specs.Bytes.{bytesAt}
 use Rattle.layout.specs.Blocks.{block}
 use Rattle.records.specs.Records.{levelOf, walkIn, storeIn, walkNumbers, storeNumbers}
 use Rattle.tlb.specs.declared.Entry.{Entry}
@@ -50,6 +51,11 @@ pub record Marked (n : ℕ) (s e : List ℕ) (r : Bool) (l : List Name) : Type 0
   pub left : e ≡ marks n s l
   pub beyond : r ≡ strays n l
 
+-- the same after others, among which b says whether there was such a page
+pub record Beside (n : ℕ) (b : Bool) (s e : List ℕ) (r : Bool) (l : List Name) : Type 0 where
+  pub left : e ≡ marks n s l
+  pub beyond : r ≡ b || strays n l
+
 -- page x is in set k with the write right; with or without it
 abbrev pub isWritten : List ℕ → ℕ → ℕ → Bool
 isWritten s k x = eqb (getD s (8192 * k + 4096 + x) 0) 1
@@ -63,6 +69,13 @@ isMarked s k x = eqb (getD s (8192 * k + x) 0) 1 || isWritten s k x
 abbrev pub entryName : ℕ → Entry → List Name
 entryName k (Word e) = if pteP e then name k (pteBa e) (e / 256 % 2) ∷ [] else []
 entryName k Missing = []
+
+-- by the entry at address a; by the four entries from there on
+abbrev pub nameFrom : ℕ → List ℕ → ℕ → List Name
+nameFrom k m a = entryName k (Word (bytesAt 4 m a))
+
+unfoldable pub fourNames : ℕ → List ℕ → ℕ → List Name
+fourNames k m a = nameFrom k m a ++ (nameFrom k m (a + 4) ++ (nameFrom k m (a + 8) ++ nameFrom k m (a + 12)))
 
 -- by the 1,024 entries of the table in page x
 unfoldable pub entryNames : ℕ → List ℕ → ℕ → List Name

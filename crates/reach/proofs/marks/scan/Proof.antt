@@ -1,7 +1,7 @@
--- `reach::marks::scan` meets its contract. The invariant: what the entries below i name is marked.
+-- `reach::marks::scan` meets its contract. The invariant: what the entries below 4 * i name is marked.
 -- Assumes nothing.
 use mathlib.Core.Path.{_∙_}
-use Prim.Native.Nat.{_-_, _≤_}
+use Prim.Native.Nat.{_-_, _*_, _≤_}
 use native.Mathlib.Omega.{arith}
 use Rattle.reach.specs.Marks.{Marked}
 use Rattle.reach.proofs.Marking.{namesTo, nameAt, loop-start, scan-next, scan-end, marked-long}
@@ -9,10 +9,10 @@ use Rattle.reach.proofs.marks.scan.Statement.{statement}
 use Rattle.reach.proofs.marks.scan.Tie as tie
 
 abbrev Inv-loop : tie.InvT-loop
-Inv-loop s₀ m pages kind p start beyond₀ i₀ s beyond i = (i ≤ 1024) × Marked pages s₀ s beyond (namesTo (nameAt kind m p) i)
+Inv-loop s₀ m pages kind p start beyond₀ i₀ s beyond i = (i ≤ 256) × Marked pages s₀ s beyond (namesTo (nameAt kind m p) (4 * i))
 
 abbrev μ-loop : tie.MeasureT-loop
-μ-loop s₀ m pages kind p start beyond₀ i₀ s beyond i = 1024 - i
+μ-loop s₀ m pages kind p start beyond₀ i₀ s beyond i = 256 - i
 
 mul-start : tie.Need-mul-start Inv-loop μ-loop
 mul-start c = omega arith
@@ -20,17 +20,14 @@ mul-start c = omega arith
 loop-holds : tie.Need-loop-holds Inv-loop μ-loop
 loop-holds c = (omega arith, loop-start _ _ _)
 
-mul-read-word : tie.Need-mul-read-word Inv-loop μ-loop
-mul-read-word c = omega arith
+mul-mark-four : tie.Need-mul-mark-four Inv-loop μ-loop
+mul-mark-four c = omega arith
 
-add-read-word : tie.Need-add-read-word Inv-loop μ-loop
-add-read-word c = omega arith
+add-mark-four : tie.Need-add-mark-four Inv-loop μ-loop
+add-mark-four c = omega arith
 
-read-word-requires : tie.Need-read-word-requires Inv-loop μ-loop
-read-word-requires c κs = omega arith
-
-mark-entry-requires : tie.Need-mark-entry-requires Inv-loop μ-loop
-mark-entry-requires c κs = let e = c .before .before .before .before .before .before in (marked-long (c .before .before .before .loop .inv .1) ∙ e .pre .0 .0, e .pre .0 .1, e .pre .0 .2)
+mark-four-requires : tie.Need-mark-four-requires Inv-loop μ-loop
+mark-four-requires c κs = let e = c .before .before .before .before .before in (marked-long (c .before .before .loop .inv .1) ∙ e .pre .0 .0, e .pre .0 .1, e .pre .0 .2, omega arith)
 
 add-i : tie.Need-add-i Inv-loop μ-loop
 add-i c = omega arith
@@ -40,8 +37,9 @@ loop-less c = omega arith
 
 loop-again : tie.Need-loop-again Inv-loop μ-loop
 loop-again c =
-    let e = c .before .before .before .before .before .before .before .before .before in
-    (omega arith, scan-next _ _ _ _ _ _ _ _ (e .args .p) (c .before .before .before .before .before .before .loop .i) _ (e .pre .1 .0) (e .pre .0 .1) (e .pre .1 .1) (c .before .before .before .before .before .loop-test .taken) (c .before .before .before .before .read-word .ensures) (c .before .before .before .before .before .before .loop .inv .1) (c .before .before .mark-entry .ensures .0) (c .before .before .mark-entry .ensures .1))
+    let e = c .before .before .before .before .before .before .before .before in
+    let l = c .before .before .before .before .before .loop in
+    (omega arith, scan-next _ _ _ _ _ _ _ _ (e .args .p) (l .i) (e .pre .1 .0) (e .pre .0 .1) (e .pre .1 .1) (c .before .before .before .before .loop-test .taken) (l .inv .1) (c .before .before .mark-four .ensures))
 
 same-length : tie.Need-same-length Inv-loop μ-loop
 same-length c = marked-long (c .before .loop .inv .1)
@@ -57,10 +55,9 @@ scan-spec =
     μ-loop
     mul-start
     loop-holds
-    mul-read-word
-    add-read-word
-    read-word-requires
-    mark-entry-requires
+    mul-mark-four
+    add-mark-four
+    mark-four-requires
     add-i
     loop-less
     loop-again
