@@ -23,22 +23,13 @@ use Rattle.apic.specs.Vectors.{withBit}
 use Rattle.apic.proofs.Bits.{bit-same, bit-other}
 use Rattle.reach.specs.Lists.{range, has, select}
 use Rattle.reach.specs.Reach.{Pages, isGroup, members, tablePages, reached, reach, inMemory, mapByte, mapFor}
-use Rattle.reach.proofs.Lists.{tested, decided, clash, and-left, and-right, and-both, or-cases, In, in-left, in-right, in-append, in-range, range-in, all-in, select-same, select-append}
+use Rattle.reach.proofs.Lists.{tested, decided, clash, and-left, and-right, and-both, or-cases, In, in-left, in-right, in-append, in-range, range-in, all-in, in-all, all-append, both-ways, has-append, select-same, select-append}
 use Rattle.separation.specs.Apart.{running, rest, runsAsUser, disjoint, closed, pagesApart, apart, apartOn}
 use Rattle.separation.specs.declared.Verdict.the-variants.{Yes, No, Refused}
 use Rattle.separation.specs.Sides.{passes, both, pageApart}
-use Rattle.separation.proofs.Mapped.{marked-is, byte-in, has-append, byte-table, byte-writable, reached-low}
+use Rattle.separation.proofs.Mapped.{marked-is, byte-in, byte-table, byte-writable, reached-low}
 
 -- ---- tests of all
-
-all-append : {A : Type 0} (p : A → Bool) (l r : List A) → all p (l ++ r) ≡ all p l && all p r
-unfolding all
-all-append p [] r = refl
-all-append p (x ∷ l) r = go (p x) (all-append p l r)
-  where
-    go : (a : Bool) → all p (l ++ r) ≡ all p l && all p r → a && all p (l ++ r) ≡ (a && all p l) && all p r
-    go true e = e
-    go false e = refl
 
 and-true : (a : Bool) → a && true ≡ a
 and-true true = refl
@@ -54,18 +45,8 @@ pub all-none : (p : ℕ → Bool) → all p (range 0) ≡ true
 unfolding all range
 all-none p = refl
 
-pub in-all : (p : ℕ → Bool) (l : List ℕ) → ((x : ℕ) → In x l → p x ≡ true) → all p l ≡ true
-unfolding all has
-in-all p [] f = refl
-in-all p (x ∷ l) f = and-both (p x) (all p l) (f x (Rattle.reach.proofs.Lists.in-here x l)) (in-all p l (λ y h. f y (Rattle.reach.proofs.Lists.in-there y x l h)))
-
-both-ways : (a b : Bool) → (a ≡ true → b ≡ true) → (b ≡ true → a ≡ true) → a ≡ b
-both-ways true b f g = sym (f refl)
-both-ways false true f g = g refl
-both-ways false false f g = refl
-
-all-same : (p q : ℕ → Bool) (l : List ℕ) → ((x : ℕ) → In x l → p x ≡ q x) → all p l ≡ all q l
-all-same p q l f =
+all-tests : (p q : ℕ → Bool) (l : List ℕ) → ((x : ℕ) → In x l → p x ≡ q x) → all p l ≡ all q l
+all-tests p q l f =
     both-ways (all p l) (all q l)
     (λ e. in-all q l (λ x h. sym (f x h) ∙ all-in p l x e h))
     (λ e. in-all p l (λ x h. f x h ∙ all-in q l x e h))
@@ -162,7 +143,7 @@ users-are g t =
     (ap (all (runsAsUser t)) (select-select (λ k. not (isSet g k)) (λ k. runs (block t k)) (range (coresOf t)))
     ∙ all-select (runsAsUser t) (isOther g t) (range (coresOf t)))
     ∙ all-and (λ k. not (isSet g k) || runsAsUser t k) (λ k. not (isOther g t k) || runsAsUser t k) (range (coresOf t))
-    ∙ all-same (λ k. (not (isSet g k) || runsAsUser t k) && (not (isOther g t k) || runsAsUser t k)) (passes g t) (range (coresOf t))
+    ∙ all-tests (λ k. (not (isSet g k) || runsAsUser t k) && (not (isOther g t k) || runsAsUser t k)) (passes g t) (range (coresOf t))
     (λ k h. one-side (isSet g k) (runs (block t k)) (runsAsUser t k))
   where
     one-side : (i r u : Bool) → ((not i || u) && (not (not i && r) || u)) ≡ (not (i || r) || u)
@@ -203,7 +184,7 @@ module _ (n : ℕ) (S T : Pages) (e : inMemory S n ≡ true) (f : inMemory T n �
   closed-below : (U : Pages) → inMemory U n ≡ true → closed U ≡ all (λ x. not (both (mapByte U x))) (range n)
   closed-below U g =
       disjoint-below n (U .writables) (tablePages U) (λ x h. reached-low n U x g (writable-in U x h))
-      ∙ all-same (λ x. not (has x (U .writables) && has x (tablePages U))) (λ x. not (both (mapByte U x))) (range n)
+      ∙ all-tests (λ x. not (has x (U .writables) && has x (tablePages U))) (λ x. not (both (mapByte U x))) (range n)
       (λ x h. ap not (swap (has x (U .writables)) (has x (tablePages U)) ∙ sym (ap₂ _&&_ (byte-table U x) (byte-writable U x))))
     where
       swap : (a b : Bool) → a && b ≡ b && a
@@ -216,7 +197,7 @@ module _ (n : ℕ) (S T : Pages) (e : inMemory S n ≡ true) (f : inMemory T n �
       ≡ all (λ x. not (not (eqb (mapByte S x) 0) && (isSet (mapByte T x) 2 || isSet (mapByte T x) 1))) (range n)
   cross-below =
       disjoint-below n (reached S) (T .writables ++ tablePages T) (λ x h. reached-low n S x e h)
-      ∙ all-same (λ x. not (has x (reached S) && has x (T .writables ++ tablePages T)))
+      ∙ all-tests (λ x. not (has x (reached S) && has x (T .writables ++ tablePages T)))
       (λ x. not (not (eqb (mapByte S x) 0) && (isSet (mapByte T x) 2 || isSet (mapByte T x) 1))) (range n)
       (λ x h. ap not (ap₂ _&&_ (sym (marked-is S x)) (has-append x (T .writables) (tablePages T) ∙ sym (ap₂ _||_ (byte-writable T x) (byte-table T x)))))
 
@@ -227,7 +208,7 @@ module _ (n : ℕ) (S T : Pages) (e : inMemory S n ≡ true) (f : inMemory T n �
       ∙ ap (λ (t : Bool). t && all (λ x. not (not (eqb (mapByte S x) 0) && (isSet (mapByte T x) 2 || isSet (mapByte T x) 1))) (range n))
       (all-and (λ x. not (both (mapByte S x))) (λ x. not (both (mapByte T x))) (range n))
       ∙ all-and (λ x. not (both (mapByte S x)) && not (both (mapByte T x))) (λ x. not (not (eqb (mapByte S x) 0) && (isSet (mapByte T x) 2 || isSet (mapByte T x) 1))) (range n)
-      ∙ all-same _ (λ x. pageApart (mapByte S x) (mapByte T x)) (range n) (λ x h. regroup (not (both (mapByte S x))) (not (both (mapByte T x))) _)
+      ∙ all-tests _ (λ x. pageApart (mapByte S x) (mapByte T x)) (range n) (λ x h. regroup (not (both (mapByte S x))) (not (both (mapByte T x))) _)
     where
       regroup : (a b c : Bool) → ((a && b) && c) ≡ (a && (b && c))
       regroup true b c = refl
@@ -239,7 +220,7 @@ pub pages-decide : (n : ℕ) (S T : Pages) (l r : List ℕ) → inMemory S n ≡
     → all (λ i. pageApart (getD l i 0) (getD r i 0)) (range n) ≡ pagesApart n S T
 unfolding pagesApart
 pages-decide n S T l r e f p q =
-    all-same (λ i. pageApart (getD l i 0) (getD r i 0)) (λ i. pageApart (mapByte S i) (mapByte T i)) (range n)
+    all-tests (λ i. pageApart (getD l i 0) (getD r i 0)) (λ i. pageApart (mapByte S i) (mapByte T i)) (range n)
     (λ i h. ap₂ pageApart (p i (range-in n i h)) (q i (range-in n i h)))
     ∙ sym (pages-are n S T e f)
     ∙ sym (ap₂ (λ (a b : Bool). (a && b) && ((closed S && closed T) && disjoint (reached S) (T .writables ++ tablePages T))) e f)

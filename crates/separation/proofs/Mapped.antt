@@ -13,11 +13,12 @@ use lib.Seq.{getD-at}
 use lib.Dec.{eqb, ltb, leb}
 use borrow.Author.Tests.{eqb-true, eqb-false, ne-eqb, eq-eqb, ltb-true, ltb-false, leb-true, leb-false, not-true}
 use Rattle.word.specs.Word.{flag, isSet, if_then_else_}
+use Rattle.records.proofs.Views.{map-append}
 use Rattle.tables.specs.Views.{pagesOf}
 use Rattle.reach.specs.Lists.{range, has, select}
 use Rattle.records.specs.Records.{all}
 use Rattle.reach.specs.Reach.{Pages, tablePages, reached, reach, inMemory, mapByte, mapFor, members, isGroup}
-use Rattle.reach.proofs.Lists.{tested, decided, clash, and-left, and-right, In, in-none, in-left, in-right, in-append, in-range, range-in, in-select, select-in, select-append, select-same, all-in}
+use Rattle.reach.proofs.Lists.{tested, decided, clash, and-left, and-right, In, in-none, in-left, in-right, in-append, in-range, range-in, in-select, select-in, select-append, select-same, all-in, has-append}
 
 -- ---- bytes of the map
 
@@ -25,10 +26,6 @@ range-long : (n : ℕ) → length (range n) ≡ n
 unfolding range
 range-long zero = refl
 range-long (suc n) = length-append (range n) (n ∷ []) ∙ omega (arith, range-long n)
-
-map-append : (f : ℕ → ℕ) (l r : List ℕ) → map f (l ++ r) ≡ map f l ++ map f r
-map-append f [] r = refl
-map-append f (x ∷ l) r = ap (λ (k : List ℕ). f x ∷ k) (map-append f l r)
 
 map-long : (f : ℕ → ℕ) (n : ℕ) → length (map f (range n)) ≡ n
 map-long f n = length-map (range n) f ∙ range-long n
@@ -75,15 +72,6 @@ not-zero false true true = refl
 not-zero false true false = refl
 not-zero false false true = refl
 not-zero false false false = refl
-
-pub has-append : (p : ℕ) (l r : List ℕ) → has p (l ++ r) ≡ has p l || has p r
-unfolding has
-has-append p [] r = refl
-has-append p (x ∷ l) r = go (eqb p x) (has-append p l r)
-  where
-    go : (a : Bool) → has p (l ++ r) ≡ has p l || has p r → a || has p (l ++ r) ≡ (a || has p l) || has p r
-    go true e = refl
-    go false e = e
 
 -- a page is marked
 abbrev pub marked : Pages → ℕ → Bool
