@@ -122,7 +122,7 @@ uint32_t mips86_reach(const uint32_t *tables, size_t ntables, const uint8_t *mem
  * Is the group kept apart from the rest, the other running cores? Yes exactly if every core of both is running in user
  * mode, neither reaches a page beyond memory, no page is both writable and table for one of them, and no page that the
  * group reaches is writable or table for the rest. The rest may read what the group writes.
- * Answers 0 no, 1 yes, or a refusal (4, 13). Writes nothing. Uses some 60 KB of stack.
+ * Answers 0 no, 1 yes, or a refusal (4, 13). Writes nothing. Uses some 33 KB of stack.
  *
  * What a yes promises. Take any other machine with a yes for that group, in which the group's blocks and the pages that
  * it reaches are the same. On each of the two carry out any list of single steps, of kinds 0 to 4, of cores that run at
