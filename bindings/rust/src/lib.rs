@@ -171,7 +171,7 @@ pub fn reach(tables: &[u32], memory: &[u8], group: u32, map: &mut [u8]) -> Resul
 /// Is the group kept apart from the rest, the other running cores? A yes promises that the group gets the same answers
 /// and sees the same state after each of its steps, whatever the others hold and do, in lists of single steps of kinds
 /// 0 to 4, each core up to its first interrupt (`../../include/mips86.h` says it in full). The error is the number of
-/// the refusal, 4 or 13. It uses some 60 KB of stack.
+/// the refusal, 4 or 13. It uses some 33 KB of stack.
 pub fn apart(tables: &[u32], memory: &[u8], group: u32) -> Result<bool, u32> {
     // SAFETY: as in `make`; nothing is written.
     let n = unsafe { c::mips86_apart(tables.as_ptr(), tables.len(), memory.as_ptr(), memory.len(), group) };
