@@ -68,11 +68,11 @@ extern "C" {
  *   11 schedule not of whole steps, or over 1,024  (run)
  *   12 the map's length is not the page count      (reach)
  *   13 group empty, or names a core not there      (reach, apart)
- * Where several apply, the first of them is given.
+ * Where several apply, the first of them is given; of run's, 4 and 11 come before those of a step.
  */
 #define MIPS86_DONE 0u      /* made; the step is done; the end of the schedule; the map is filled */
 #define MIPS86_LIMIT 1u     /* run: the limit is spent */
-#define MIPS86_INTERRUPT 1u /* step: 1 to 8, plus the level 0 to 7 */
+#define MIPS86_INTERRUPT 1u /* step: plus the level 0 to 7, so 1 to 8 */
 #define MIPS86_NO 0u        /* apart */
 #define MIPS86_YES 1u       /* apart */
 #define MIPS86_REFUSED 100u
@@ -113,7 +113,8 @@ uint32_t mips86_run(uint32_t *tables, size_t ntables, uint8_t *memory, size_t nm
  * Fills the map, one byte a page, for a group of cores. Bit n of `group` stands for core n. Every core of the group
  * counts, in any mode, whether or not it runs.
  * Answers 0, or a refusal (4, 12, 13), which leaves the map. Writes to *beyond 1 where a page beyond memory is reached,
- * as a port's is, and else 0 (0 with a refusal). The map is filled in both cases.
+ * as a port's is, and else 0 (0 with a refusal). With the answer 0 the map is filled, whatever *beyond says. Uses some
+ * 25 KB of stack.
  */
 uint32_t mips86_reach(const uint32_t *tables, size_t ntables, const uint8_t *memory, size_t nmemory, uint32_t group,
                       uint8_t *map, size_t nmap, uint32_t *beyond);
@@ -122,7 +123,8 @@ uint32_t mips86_reach(const uint32_t *tables, size_t ntables, const uint8_t *mem
  * Is the group kept apart from the rest, the other running cores? Yes exactly if every core of both is running in user
  * mode, neither reaches a page beyond memory, no page is both writable and table for one of them, and no page that the
  * group reaches is writable or table for the rest. The rest may read what the group writes.
- * Answers 0 no, 1 yes, or a refusal (4, 13). Writes nothing. Uses some 33 KB of stack.
+ * Answers 0 no, 1 yes, or a refusal (4, 13). A refusal is not 0 either, so compare with MIPS86_YES and nothing else.
+ * Writes nothing. Uses some 33 KB of stack.
  *
  * What a yes promises. Take any other machine with a yes for that group, in which the group's blocks and the pages that
  * it reaches are the same. On each of the two carry out any list of single steps, of kinds 0 to 4, of cores that run at

@@ -18,6 +18,7 @@ pub record Claims : Type 0 where
   pub unhindered : Unhindered
   -- A machine as made is sound, and in a configuration that the report allows after reset.
   pub reset : Resets
-  -- Two machines with the verdict "apart" for a group, alike in the group's blocks and reachable pages: for any two lists of single steps in
-  -- which the group takes the same steps, the group gets the same answers and sees the same state after each of its steps, whatever the others hold and do.
+  -- Two machines with the verdict "apart" for a group, alike in the group's blocks and reachable pages, and two lists of steps of kinds 0 to 4, of cores that
+  -- run at the start, each up to its first interrupt, in which the group takes the same steps: the group gets the same answers and sees the same state after
+  -- each of its steps, whatever the others hold and do; and in each list bytes that neither side can write stay, and table bytes but for accessed bits.
   pub demand3 : Demand3

@@ -1,5 +1,5 @@
--- What the interface for C answers, as one number. For a step it is answerNumber (steps, specs/Answers), for reach reachedNumber
--- (reach, specs/Reach), for apart verdictNumber (separation, specs/Apart).
+-- What the interface for C answers, as one number. For a step it is answerNumber (steps, specs/Answers), for reach reachedNumber,
+-- and beyondOf for the word at `beyond` (reach, specs/Reach), for apart verdictNumber (separation, specs/Apart).
 -- Assumes nothing.
 use Prim.Native.Nat.{ℕ, zero, suc, _+_}
 use Rattle.tables.specs.declared.make.Made.{Made}

@@ -1,5 +1,5 @@
 // The interface for C and Rust (include/mips86.h): make, step, run, reach and apart on lent tables and memory. A slice is a pointer and
-// a length in C, and each operation answers one number.
+// a length in C, and each operation answers one number; run and reach write one more word.
 use machine::run::Stop;
 use reach::Reached;
 use separation::Verdict;

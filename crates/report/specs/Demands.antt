@@ -3,9 +3,10 @@
 --
 -- To be believed are the report's side (Configuration, Components, Delta), the view, what a step needs (Needs), this file, and the definitions that these
 -- share with the machine:
--- of numbers and lists alone: decoded and the mnemonics, ea, d, sv, events, causes and deltaCore (decode, units, isa); winit, wext, wextFault, hit and
--- ptea (tlb); sbhit, sbv, sbhazard and isPort (store_buffer); least and withBit (apic);
--- of words: stepOf, the form of a step (steps); sound (tables); stores, walks and there (records).
+-- of numbers and lists alone: decoded and the mnemonics, ea, d, sv, events, causes and deltaCore (decode, units, isa); winit, wext, wextFault, set-d,
+-- complete, hit and ptea (tlb); sbhit, sbv, sbhazard, isPort, apicadr and ioapicadr (store_buffer); least, someUpTo and withBit (apic); there, localPort,
+-- ioPort, among and same (records);
+-- of words: stepOf, the form of a step (steps); the views of words, sound and made (tables); stores and walks (records).
 -- That they are not empty is shown in claims: made tables are sound, and there are steps that are accepted and steps refused 5 to 9.
 --
 -- The numbers of records, the order of the walks and the free chain are no part of a configuration. Nothing here fixes them but that tables stay sound:

@@ -96,7 +96,7 @@ unfoldable pub after : Point → List (List ℕ) → Point
 after x [] = x
 after x (s ∷ l) = after (next x s) l
 
--- Each step has kind 0 to 4 and names such a core; its other words are free (other than six words in all are refused, 5).
+-- Each step has kind 0 to 4 and names such a core; its other words are free (a call of more or fewer than six words is refused 5).
 abbrev pub may : Point → List ℕ → Bool
 may x s = leb (word s 0) 4 && has (word s 1) (x .going)
 
@@ -131,7 +131,8 @@ observed g cs ps x (s ∷ l) =
 abbrev pub observes : ℕ → Machine → List (List ℕ) → List (Answer × View)
 observes g M l = observed g (group g M) (reachable g M) (start M) l
 
--- Alike: all words of the blocks of the group's cores and all bytes of the pages it reaches are equal; all else may differ, the header too.
+-- Alike: all words of the blocks of the group's cores and all bytes of the pages it reaches in M are equal (that it reaches the same in N follows: pages,
+-- below); all else may differ, the header too.
 abbrev pub Alike : ℕ → Machine → Machine → Type 0
 Alike g M N = seen (group g M) (reachable g M) M ≡ seen (group g M) (reachable g M) N
 
@@ -139,7 +140,7 @@ Alike g M N = seen (group g M) (reachable g M) M ≡ seen (group g M) (reachable
 
 pub record Framed (g : ℕ) (M : Machine) (x : Point) : Type 0 where
   pub size : length (x .machine .memory) ≡ length (M .memory)
-  -- a byte of a page that is neither table nor writable for a side is as it was;
+  -- a byte of a page that is neither table nor writable for either side is as it was;
   pub still : (a : ℕ) → either tableBit g M (a / pageBytes) || either writableBit g M (a / pageBytes) ≡ false
       → getD (x .machine .memory) a 0 ≡ getD (M .memory) a 0
   -- a table byte is as it was but for the accessed bit, its entry's: bit 7 of the entry's first byte;

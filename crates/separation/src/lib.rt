@@ -36,6 +36,7 @@ fn maps_apart(t: &[u32], m: &[u8], group: u32, own: &mut [u8], other: &mut [u8])
     sides::pages_apart(own, other, t[PAGES] as usize)
 }
 
+// The same with two maps of its own.
 fn pages_apart(t: &[u32], m: &[u8], group: u32) -> bool
     requires { ⌜ sound (now t) (length (now m)) ≡ true ⌝ }
     ensures { λ r. ⌜ r ≡ x.pagesApart (pagesOf (now (t .entry))) (reach (members group (coresOf (now (t .entry)))) (now (t .entry)) (now (m .entry))) (reach (x.rest group (now (t .entry))) (now (t .entry)) (now (m .entry))) ⌝ }
@@ -46,6 +47,7 @@ fn pages_apart(t: &[u32], m: &[u8], group: u32) -> bool
     maps_apart(t, m, group, &mut own[..pages], &mut other[..pages])
 }
 
+// The verdict, without its promise.
 fn judged(t: &[u32], m: &[u8], group: u32) -> Verdict
     ensures { λ r. ⌜ r ≡ x.apartOn group (now (t .entry)) (now (m .entry)) ⌝ }
 {
