@@ -6,7 +6,6 @@ pub mod Accesses
 pub mod Held
 pub mod Judging
 pub mod Adding
-pub mod Written
 pub mod Changes
 pub mod Doing
 pub mod Sounds

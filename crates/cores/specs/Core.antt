@@ -56,21 +56,18 @@ pub record View : Type 0 where
 abbrev pub isFree : List ℕ → Bool
 isFree b = not (eqb (getD b layout.freeHead 0) 0)
 
--- of a block with the external event x, beside the words IOREGSEL and IOWIN
-abbrev pub viewWith : Found → List ℕ → ℕ → ℕ → View
-viewWith x b select window =
+-- of a block, beside the words IOREGSEL and IOWIN
+abbrev pub viewOf : List ℕ → ℕ → ℕ → View
+viewOf b select window =
     record {
       core = registersOf b;
       running = eqb (runningOf b) 1;
       sb = stores b;
       tlb = walks b;
       free = isFree b;
-      eev = x;
+      eev = event b;
       ports = portsOf b select window;
     }
-
-abbrev pub viewOf : List ℕ → ℕ → ℕ → View
-viewOf b select window = viewWith (event b) b select window
 
 -- ∨ eev[i], and min { j | eev[j] = 1 }
 abbrev pub isEvent : Found → Bool

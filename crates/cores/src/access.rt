@@ -8,7 +8,6 @@ use super::causes;
 use super::finish;
 use super::refused;
 use super::translation;
-use apic::vectors::Found;
 use decode::Instruction;
 use decode::classes;
 use decode::fields;
@@ -37,7 +36,6 @@ ghost use Rattle.cores.specs.Plans as p;
 ghost use Rattle.cores.specs.Core as x;
 
 fn load(
-    event: Found,
     b: &[u32],
     select: u32,
     window: u32,
@@ -50,16 +48,16 @@ fn load(
     requires { ⌜ length (now b) ≡ 256 ⌝ }
     requires { ⌜ soundRecords (length (now m)) (now b) ≡ true ⌝ }
     requires { ⌜ aligned a (d i) ≡ true ⌝ }
-    ensures { λ r. ⌜ r ≡ x.onLoad (x.viewWith event (now (b .entry)) select window) i w causes (loaded (stores (now (b .entry))) (portsOf (now (b .entry)) select window) (now (m .entry)) a (d i)) ⌝ }
+    ensures { λ r. ⌜ r ≡ x.onLoad (x.viewOf (now (b .entry)) select window) i w causes (loaded (stores (now (b .entry))) (portsOf (now (b .entry)) select window) (now (m .entry)) a (d i)) ⌝ }
 {
     let l = store_buffer::load(b, select, window, m, a, interrupts::width(i));
     match l {
         Loaded::Value(v, _) => finish::finished(
+            b,
             i,
             w,
             v,
             causes,
-            event,
             BufferChange::Nothing,
             WalkChange::Nothing,
             Write::Nothing,
@@ -107,7 +105,6 @@ fn stored(b: &[u32], i: Instruction, w: u32, a: u32) -> Store
 }
 
 fn store(
-    event: Found,
     b: &[u32],
     select: u32,
     window: u32,
@@ -121,7 +118,7 @@ fn store(
     requires { ⌜ linked (now b) ≡ true ⌝ }
     requires { ⌜ length (now m) % 4 ≡ 0 ⌝ }
     requires { ⌜ aligned a (d i) ≡ true ⌝ }
-    ensures { λ r. ⌜ r ≡ x.onStore (x.viewWith event (now (b .entry)) select window) i w causes (x.storedFrom (registersOf (now (b .entry))) i w a) (allThere (d i) (length (now (m .entry))) a) ⌝ }
+    ensures { λ r. ⌜ r ≡ x.onStore (x.viewOf (now (b .entry)) select window) i w causes (x.storedFrom (registersOf (now (b .entry))) i w a) (allThere (d i) (length (now (m .entry))) a) ⌝ }
 {
     if !is_there(a, interrupts::width(i), m.len()) {
         return refused(7);
@@ -134,11 +131,11 @@ fn store(
     }
     let s = stored(b, i, w, a);
     finish::finished(
+        b,
         i,
         w,
         0,
         causes,
-        event,
         BufferChange::Put(s),
         WalkChange::Nothing,
         Write::Nothing,
@@ -157,7 +154,6 @@ fn exchanged(b: &[u32], w: u32, read: u32, a: u32) -> Write
 }
 
 fn cas(
-    event: Found,
     b: &[u32],
     select: u32,
     window: u32,
@@ -169,18 +165,18 @@ fn cas(
 ) -> Plan
     requires { ⌜ length (now b) ≡ 256 ⌝ }
     requires { ⌜ aligned a 4 ≡ true ⌝ }
-    ensures { λ r. ⌜ r ≡ x.onCas (x.viewWith event (now (b .entry)) select window) i w causes a (reads 4 (memoryByte (now (m .entry))) a) ⌝ }
+    ensures { λ r. ⌜ r ≡ x.onCas (x.viewOf (now (b .entry)) select window) i w causes a (reads 4 (memoryByte (now (m .entry))) a) ⌝ }
 {
     let r = store_buffer::read_memory(m, a, 4);
     match r {
         Read::There(v) => {
             let write = exchanged(b, w, v, a);
             finish::finished(
+                b,
                 i,
                 w,
                 v,
                 causes,
-                event,
                 BufferChange::Nothing,
                 WalkChange::Nothing,
                 write,
@@ -192,7 +188,6 @@ fn cas(
 
 // A load, store or cas at a physical address.
 fn performed(
-    event: Found,
     b: &[u32],
     select: u32,
     window: u32,
@@ -207,15 +202,15 @@ fn performed(
     requires { ⌜ length (now m) % 4 ≡ 0 ⌝ }
     requires { ⌜ x.isAccess i ≡ true ⌝ }
     requires { ⌜ aligned a (d i) ≡ true ⌝ }
-    ensures { λ r. ⌜ r ≡ x.performed (x.viewWith event (now (b .entry)) select window) (now (m .entry)) i w causes a ⌝ }
+    ensures { λ r. ⌜ r ≡ x.performed (x.viewOf (now (b .entry)) select window) (now (m .entry)) i w causes a ⌝ }
 {
     if classes::is_load(i) {
-        return load(event, b, select, window, m, i, w, causes, a);
+        return load(b, select, window, m, i, w, causes, a);
     }
     if classes::is_store(i) {
-        return store(event, b, select, window, m, i, w, causes, a);
+        return store(b, select, window, m, i, w, causes, a);
     }
-    cas(event, b, select, window, m, i, w, causes, a)
+    cas(b, select, window, m, i, w, causes, a)
 }
 
 // Whether an instruction may access no port.
@@ -238,60 +233,42 @@ fn has_hazard(b: &[u32], i: Instruction, a: u32) -> bool
 }
 
 // A load, store or cas that does not fault, at its physical address.
-fn at_address(
-    event: Found,
-    b: &[u32],
-    select: u32,
-    window: u32,
-    m: &[u8],
-    i: Instruction,
-    w: u32,
-    a: u32,
-) -> Plan
+fn at_address(b: &[u32], select: u32, window: u32, m: &[u8], i: Instruction, w: u32, a: u32) -> Plan
     requires { ⌜ length (now b) ≡ 256 ⌝ }
     requires { ⌜ soundRecords (length (now m)) (now b) ≡ true ⌝ }
     requires { ⌜ length (now m) % 4 ≡ 0 ⌝ }
     requires { ⌜ x.isAccess i ≡ true ⌝ }
     requires { ⌜ a % 4 ≡ ea i (registersOf (now b)) w % 4 ⌝ }
-    ensures { λ r. ⌜ r ≡ settle p.refused (x.onAddress (x.viewWith event (now (b .entry)) select window) (now (m .entry)) i w a) ⌝ }
+    ensures { λ r. ⌜ r ≡ settle p.refused (x.onAddress (x.viewOf (now (b .entry)) select window) (now (m .entry)) i w a) ⌝ }
 {
     if avoids_ports(i) & store_buffer::is_port(a) {
         return refused(6);
     }
-    let ca = causes::of(b, event, i, w, false);
+    let ca = causes::of(b, i, w, false);
     if causes::suppress(ca) {
         if has_hazard(b, i, a) {
             return refused(6);
         }
-        return finish::stopped(w, ca, event, WalkChange::Nothing);
+        return finish::stopped(b, w, ca, WalkChange::Nothing);
     }
-    performed(event, b, select, window, m, i, w, ca, a)
+    performed(b, select, window, m, i, w, ca, a)
 }
 
 // A load, store or cas that does not fault, by the walk that was used.
-fn passed(
-    event: Found,
-    b: &[u32],
-    select: u32,
-    window: u32,
-    m: &[u8],
-    walk: Walk,
-    i: Instruction,
-    w: u32,
-) -> Plan
+fn passed(b: &[u32], select: u32, window: u32, m: &[u8], walk: Walk, i: Instruction, w: u32) -> Plan
     requires { ⌜ length (now b) ≡ 256 ⌝ }
     requires { ⌜ soundRecords (length (now m)) (now b) ≡ true ⌝ }
     requires { ⌜ length (now m) % 4 ≡ 0 ⌝ }
     requires { ⌜ x.isAccess i ≡ true ⌝ }
     requires { ⌜ (not (user (registersOf (now b))) || ltb (walk .second) (2 ^ 20)) ≡ true ⌝ }
-    ensures { λ r. ⌜ r ≡ settle p.refused (x.onData (x.viewWith event (now (b .entry)) select window) (now (m .entry)) walk i w verdict.Passes) ⌝ }
+    ensures { λ r. ⌜ r ≡ settle p.refused (x.onData (x.viewOf (now (b .entry)) select window) (now (m .entry)) walk i w verdict.Passes) ⌝ }
 {
     let user = block::user(b);
     if !translation::ends(user, walk) {
         return refused(6);
     }
     let a = translation::physical(user, walk, causes::address(b, i, w));
-    at_address(event, b, select, window, m, i, w, a)
+    at_address(b, select, window, m, i, w, a)
 }
 
 fn data_request(b: &[u32], i: Instruction, w: u32) -> Request
@@ -315,21 +292,12 @@ fn data_request(b: &[u32], i: Instruction, w: u32) -> Request
 }
 
 // A load, store or cas by the data walk.
-fn access(
-    event: Found,
-    b: &[u32],
-    select: u32,
-    window: u32,
-    m: &[u8],
-    walk: Walk,
-    i: Instruction,
-    w: u32,
-) -> Plan
+fn access(b: &[u32], select: u32, window: u32, m: &[u8], walk: Walk, i: Instruction, w: u32) -> Plan
     requires { ⌜ length (now b) ≡ 256 ⌝ }
     requires { ⌜ soundRecords (length (now m)) (now b) ≡ true ⌝ }
     requires { ⌜ length (now m) % 4 ≡ 0 ⌝ }
     requires { ⌜ x.isAccess i ≡ true ⌝ }
-    ensures { λ r. ⌜ r ≡ settle p.refused (x.onAccess (x.viewWith event (now (b .entry)) select window) (now (m .entry)) walk i w) ⌝ }
+    ensures { λ r. ⌜ r ≡ settle p.refused (x.onAccess (x.viewOf (now (b .entry)) select window) (now (m .entry)) walk i w) ⌝ }
 {
     let user = block::user(b);
     let t = data_request(b, i, w);
@@ -338,10 +306,10 @@ fn access(
     }
     let f = translation::fault(m, user, t, walk);
     match f {
-        Verdict::Passes => passed(event, b, select, window, m, walk, i, w),
+        Verdict::Passes => passed(b, select, window, m, walk, i, w),
         Verdict::Faults => {
-            let ca = causes::of(b, event, i, w, true);
-            finish::stopped(w, ca, event, translation::faulted(b, t.va))
+            let ca = causes::of(b, i, w, true);
+            finish::stopped(b, w, ca, translation::faulted(b, t.va))
         }
         Verdict::Undecided => refused(7),
     }
@@ -364,21 +332,21 @@ fn dropped(b: &[u32], i: Instruction, w: u32) -> WalkChange
 }
 
 // An instruction that accesses no memory.
-fn plain(event: Found, b: &[u32], select: u32, window: u32, i: Instruction, w: u32) -> Plan
+fn plain(b: &[u32], select: u32, window: u32, i: Instruction, w: u32) -> Plan
     requires { ⌜ length (now b) ≡ 256 ⌝ }
-    ensures { λ r. ⌜ r ≡ x.withoutAccess (x.viewWith event (now (b .entry)) select window) i w ⌝ }
+    ensures { λ r. ⌜ r ≡ x.withoutAccess (x.viewOf (now (b .entry)) select window) i w ⌝ }
 {
-    let masked = causes::of(b, event, i, w, false);
+    let masked = causes::of(b, i, w, false);
     let walks = dropped(b, i, w);
     if causes::suppress(masked) {
-        return finish::stopped(w, masked, event, WalkChange::Nothing);
+        return finish::stopped(b, w, masked, WalkChange::Nothing);
     }
     finish::finished(
+        b,
         i,
         w,
         0,
         masked,
-        event,
         BufferChange::Nothing,
         walks,
         Write::Nothing,
@@ -405,7 +373,6 @@ fn is_access(i: Instruction) -> bool
 
 // An instruction that was fetched.
 pub fn instruction(
-    event: Found,
     b: &[u32],
     select: u32,
     window: u32,
@@ -417,13 +384,13 @@ pub fn instruction(
     requires { ⌜ length (now b) ≡ 256 ⌝ }
     requires { ⌜ soundRecords (length (now m)) (now b) ≡ true ⌝ }
     requires { ⌜ length (now m) % 4 ≡ 0 ⌝ }
-    ensures { λ r. ⌜ r ≡ settle p.refused (x.onInstruction (x.viewWith event (now (b .entry)) select window) (now (m .entry)) walk i w) ⌝ }
+    ensures { λ r. ⌜ r ≡ settle p.refused (x.onInstruction (x.viewOf (now (b .entry)) select window) (now (m .entry)) walk i w) ⌝ }
 {
     if !finds_buffer(b, i) {
         return refused(6);
     }
     if is_access(i) {
-        return access(event, b, select, window, m, walk, i, w);
+        return access(b, select, window, m, walk, i, w);
     }
-    plain(event, b, select, window, i, w)
+    plain(b, select, window, i, w)
 }

@@ -2,6 +2,7 @@
 ghost use mathlib.Core.Path.{_≡_};
 ghost use Prim.Native.Nat.{_<_, _^_};
 ghost use lib.ListN.{length};
+ghost use Rattle.layout.specs.Layout.{sr};
 ghost use Rattle.isa.specs.Core.{gprAt, sprAt};
 ghost use Rattle.isa.specs.Interrupts as s;
 ghost use Rattle.tables.specs.Views.{registersOf};
@@ -28,6 +29,13 @@ pub fn pc(b: &[u32]) -> u32
     ensures { λ r. ⌜ r ≡ registersOf (now (b .entry)) .pc ⌝ }
 {
     b[layout::PC]
+}
+
+pub fn status(b: &[u32]) -> u32
+    requires { ⌜ length (now b) ≡ 256 ⌝ }
+    ensures { λ r. ⌜ r ≡ sprAt (registersOf (now (b .entry))) sr ⌝ }
+{
+    special(b, layout::SR)
 }
 
 // User mode.

@@ -1,15 +1,18 @@
 // The masked causes of a core's step (6.3).
 use super::block;
 use super::finish;
-use apic::vectors::Found;
+use apic::local;
 use decode::Instruction;
 use decode::fields;
 use isa::interrupts;
 use isa::interrupts::Events;
 ghost use mathlib.Core.Path.{_≡_};
+ghost use mathlib.Core.Bool.{_&&_};
 ghost use lib.ListN.{length};
+ghost use Rattle.word.specs.Word.{isSet};
 ghost use Rattle.isa.specs.Core.{ea};
 ghost use Rattle.isa.specs.Interrupts as s;
+ghost use Rattle.apic.specs.LocalApic.{event};
 ghost use Rattle.tables.specs.Views.{registersOf};
 ghost use Rattle.cores.specs.Core as x;
 
@@ -21,24 +24,37 @@ pub fn address(b: &[u32], i: Instruction, w: u32) -> u32
     interrupts::effective_address(i, w, block::general(b, fields::rs(w)))
 }
 
-// Of an instruction.
-pub fn of(b: &[u32], event: Found, i: Instruction, w: u32, pfls: bool) -> u32
+// An external event that the status register lets through; it is looked for only where one could pass.
+fn is_heard(b: &[u32], status: u32) -> bool
     requires { ⌜ length (now b) ≡ 256 ⌝ }
-    ensures { λ r. ⌜ r ≡ s.causesOf (registersOf (now (b .entry))) (s.eventsAs i (registersOf (now (b .entry))) w (x.isEvent event) pfls) ⌝ }
+    ensures { λ r. ⌜ (r && isSet status 1) ≡ (x.isEvent (event (now (b .entry))) && isSet status 1) ⌝ }
 {
+    if (status >> 1) % 2 == 1 {
+        return finish::is_event(local::event(b));
+    }
+    false
+}
+
+// Of an instruction.
+pub fn of(b: &[u32], i: Instruction, w: u32, pfls: bool) -> u32
+    requires { ⌜ length (now b) ≡ 256 ⌝ }
+    ensures { λ r. ⌜ r ≡ s.causesOf (registersOf (now (b .entry))) (s.eventsAs i (registersOf (now (b .entry))) w (x.isEvent (event (now (b .entry)))) pfls) ⌝ }
+{
+    let status = block::status(b);
+    let io = is_heard(b, status);
     let p = block::general(b, fields::rs(w));
     let q = block::general(b, fields::rt(w));
-    let e = interrupts::events_of(i, w, p, q, block::user(b), finish::is_event(event), pfls);
-    e.masked(block::special(b, layout::SR))
+    interrupts::causes_of(i, w, p, q, block::user(b), io, pfls, status)
 }
 
 // Of a core that has no instruction: a misaligned pc, or a page fault on fetch.
-pub fn without(b: &[u32], event: Found, mal: bool, pff: bool) -> u32
+pub fn without(b: &[u32], mal: bool, pff: bool) -> u32
     requires { ⌜ length (now b) ≡ 256 ⌝ }
-    ensures { λ r. ⌜ r ≡ s.causesOf (registersOf (now (b .entry))) (s.eventsWithout (x.isEvent event) mal pff) ⌝ }
+    ensures { λ r. ⌜ r ≡ s.causesOf (registersOf (now (b .entry))) (s.eventsWithout (x.isEvent (event (now (b .entry)))) mal pff) ⌝ }
 {
-    let e = Events::without(finish::is_event(event), mal, pff);
-    e.masked(block::special(b, layout::SR))
+    let status = block::status(b);
+    let e = Events::without(is_heard(b, status), mal, pff);
+    e.masked(status)
 }
 
 // Whether the interrupt, if there is one, leaves no effect.

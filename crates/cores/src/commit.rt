@@ -4,73 +4,29 @@ use super::CoreChange;
 use super::Plan;
 use super::WalkChange;
 use super::Write;
-use super::block;
 use apic::local;
 use decode::Instruction;
-use decode::classes;
-use decode::fields;
 use ioapic::ports;
-use isa::outcomes::Operands;
-use isa::outcomes::Outcome;
 use tables::registers;
 ghost use mathlib.Core.Path.{_≡_};
 ghost use mathlib.Core.Bool.{true};
-ghost use Prim.Native.Nat.{_+_, _*_, _<_, _≤_};
+ghost use Prim.Native.Nat.{_+_, _*_, _≤_};
 ghost use lib.ListN.{length};
 ghost use Rattle.records.specs.Records.{linked};
 ghost use Rattle.layout.specs.Blocks.{block};
 ghost use Rattle.isa.specs.Core.{effect};
 ghost use Rattle.isa.specs.Interrupts.{deltaJisr, deltaRfe};
-ghost use Rattle.isa.specs.Steps.{operandsOf, applied};
 ghost use Rattle.apic.specs.LocalApic.{jisr, rfe};
 ghost use Rattle.tables.specs.Views.{registersOf, withRegisters};
 ghost use Rattle.cores.specs.Commit as x;
 
-// What an instruction reads of a block.
-fn operands(b: &[u32], w: u32) -> Operands
-    requires { ⌜ length (now b) ≡ 256 ⌝ }
-    ensures { λ r. ⌜ r ≡ operandsOf (registersOf (now (b .entry))) w ⌝ }
-{
-    let p = block::general(b, fields::rs(w));
-    let q = block::general(b, fields::rt(w));
-    let special = block::special(b, fields::rd(w) as usize);
-    Operands {
-        p,
-        q,
-        special,
-        pc: block::pc(b),
-        hi: b[layout::HI],
-        lo: b[layout::LO],
-    }
-}
-
-// An outcome is written, but general register 0 stays.
-fn put(b: &mut [u32], o: Outcome)
-    requires { ⌜ length (now b) ≡ 256 ⌝ }
-    requires { ⌜ o .n < 32 ⌝ }
-    ensures { λ _. ⌜ now (b .exit) ≡ withRegisters (now (b .entry)) (applied (registersOf (now (b .entry))) o) ⌝ }
-{
-    b[layout::PC] = o.pc;
-    b[layout::HI] = o.hi;
-    b[layout::LO] = o.lo;
-    let n = o.n as usize;
-    if n != 0 {
-        b[n] = o.v;
-    }
-}
-
-// An instruction. Only movg2s needs the registers as a whole; of any other the few words that change are written where they stand.
+// The registers are taken out of the block, and what an instruction, an interrupt or a return makes of them is put back.
 fn execute(b: &mut [u32], i: Instruction, w: u32, read: u32)
     requires { ⌜ length (now b) ≡ 256 ⌝ }
     ensures { λ _. ⌜ now (b .exit) ≡ withRegisters (now (b .entry)) (effect i (registersOf (now (b .entry))) w read) ⌝ }
 {
-    if classes::is_movg2s(i) {
-        let c = registers::registers(b);
-        registers::put_registers(b, c.effect(i, w, read));
-        return;
-    }
-    let o = operands(b, w);
-    put(b, o.outcome(i, w, read));
+    let c = registers::registers(b);
+    registers::put_registers(b, c.execute(i, w, read));
 }
 
 fn interrupt(b: &mut [u32], w: u32, read: u32, causes: u32, vector: u32)

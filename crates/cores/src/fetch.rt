@@ -7,8 +7,6 @@ use super::causes;
 use super::finish;
 use super::refused;
 use super::translation;
-use apic::local;
-use apic::vectors::Found;
 use records::Walk;
 use store_buffer::Read;
 use tlb::Request;
@@ -27,20 +25,12 @@ ghost use Rattle.cores.specs.Plans as p;
 ghost use Rattle.cores.specs.Core as x;
 
 // The instruction at a physical address.
-fn at_address(
-    event: Found,
-    b: &[u32],
-    select: u32,
-    window: u32,
-    m: &[u8],
-    second: Walk,
-    a: u32,
-) -> Plan
+fn at_address(b: &[u32], select: u32, window: u32, m: &[u8], second: Walk, a: u32) -> Plan
     requires { ⌜ length (now b) ≡ 256 ⌝ }
     requires { ⌜ soundRecords (length (now m)) (now b) ≡ true ⌝ }
     requires { ⌜ length (now m) % 4 ≡ 0 ⌝ }
     requires { ⌜ a % 4 ≡ 0 ⌝ }
-    ensures { λ r. ⌜ r ≡ settle p.refused (x.onFetchAddress (x.viewWith event (now (b .entry)) select window) (now (m .entry)) second a) ⌝ }
+    ensures { λ r. ⌜ r ≡ settle p.refused (x.onFetchAddress (x.viewOf (now (b .entry)) select window) (now (m .entry)) second a) ⌝ }
 {
     if store_buffer::is_port(a) {
         return refused(6);
@@ -49,35 +39,27 @@ fn at_address(
     match r {
         Read::There(w) => {
             let i = decode::decode(w);
-            access::instruction(event, b, select, window, m, second, i, w)
+            access::instruction(b, select, window, m, second, i, w)
         }
         Read::Nowhere => refused(7),
     }
 }
 
 // A fetch that does not fault, by the walk that was used.
-fn passed(
-    event: Found,
-    b: &[u32],
-    select: u32,
-    window: u32,
-    m: &[u8],
-    fetch: Walk,
-    second: Walk,
-) -> Plan
+fn passed(b: &[u32], select: u32, window: u32, m: &[u8], fetch: Walk, second: Walk) -> Plan
     requires { ⌜ length (now b) ≡ 256 ⌝ }
     requires { ⌜ soundRecords (length (now m)) (now b) ≡ true ⌝ }
     requires { ⌜ length (now m) % 4 ≡ 0 ⌝ }
     requires { ⌜ registersOf (now b) .pc % 4 ≡ 0 ⌝ }
     requires { ⌜ (not (user (registersOf (now b))) || ltb (fetch .second) (2 ^ 20)) ≡ true ⌝ }
-    ensures { λ r. ⌜ r ≡ settle p.refused (x.onFetch (x.viewWith event (now (b .entry)) select window) (now (m .entry)) fetch second verdict.Passes) ⌝ }
+    ensures { λ r. ⌜ r ≡ settle p.refused (x.onFetch (x.viewOf (now (b .entry)) select window) (now (m .entry)) fetch second verdict.Passes) ⌝ }
 {
     let user = block::user(b);
     if !translation::ends(user, fetch) {
         return refused(6);
     }
     let a = translation::physical(user, fetch, block::pc(b));
-    at_address(event, b, select, window, m, second, a)
+    at_address(b, select, window, m, second, a)
 }
 
 fn fetch_request(b: &[u32]) -> Request
@@ -93,20 +75,12 @@ fn fetch_request(b: &[u32]) -> Request
 }
 
 // A fetch by the fetch walk.
-fn by_walk(
-    event: Found,
-    b: &[u32],
-    select: u32,
-    window: u32,
-    m: &[u8],
-    fetch: Walk,
-    second: Walk,
-) -> Plan
+fn by_walk(b: &[u32], select: u32, window: u32, m: &[u8], fetch: Walk, second: Walk) -> Plan
     requires { ⌜ length (now b) ≡ 256 ⌝ }
     requires { ⌜ soundRecords (length (now m)) (now b) ≡ true ⌝ }
     requires { ⌜ length (now m) % 4 ≡ 0 ⌝ }
     requires { ⌜ registersOf (now b) .pc % 4 ≡ 0 ⌝ }
-    ensures { λ r. ⌜ r ≡ settle p.refused (x.fetch (x.viewWith event (now (b .entry)) select window) (now (m .entry)) fetch second) ⌝ }
+    ensures { λ r. ⌜ r ≡ settle p.refused (x.fetch (x.viewOf (now (b .entry)) select window) (now (m .entry)) fetch second) ⌝ }
 {
     let user = block::user(b);
     let t = fetch_request(b);
@@ -115,10 +89,10 @@ fn by_walk(
     }
     let f = translation::fault(m, user, t, fetch);
     match f {
-        Verdict::Passes => passed(event, b, select, window, m, fetch, second),
+        Verdict::Passes => passed(b, select, window, m, fetch, second),
         Verdict::Faults => {
-            let ca = causes::without(b, event, false, true);
-            finish::stopped(0, ca, event, translation::faulted(b, t.va))
+            let ca = causes::without(b, false, true);
+            finish::stopped(b, 0, ca, translation::faulted(b, t.va))
         }
         Verdict::Undecided => refused(7),
     }
@@ -131,13 +105,12 @@ pub fn decide(b: &[u32], select: u32, window: u32, m: &[u8], fetch: Walk, second
     requires { ⌜ length (now m) % 4 ≡ 0 ⌝ }
     ensures { λ r. ⌜ r ≡ x.coreStep (x.viewOf (now (b .entry)) select window) (now (m .entry)) fetch second ⌝ }
 {
-    let event = local::event(b);
     if b[layout::RUNNING] != 1 {
         return refused(6);
     }
     if block::pc(b) % 4 != 0 {
-        let ca = causes::without(b, event, true, false);
-        return finish::stopped(0, ca, event, WalkChange::Nothing);
+        let ca = causes::without(b, true, false);
+        return finish::stopped(b, 0, ca, WalkChange::Nothing);
     }
-    by_walk(event, b, select, window, m, fetch, second)
+    by_walk(b, select, window, m, fetch, second)
 }

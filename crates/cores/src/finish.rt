@@ -4,11 +4,14 @@ use super::CoreChange;
 use super::Plan;
 use super::WalkChange;
 use super::Write;
+use apic::local;
 use apic::vectors::Found;
 use decode::Instruction;
 use isa::interrupts;
 use steps::Answer;
 ghost use mathlib.Core.Path.{_≡_};
+ghost use lib.ListN.{length};
+ghost use Rattle.apic.specs.LocalApic.{event};
 ghost use Rattle.cores.specs.Plans as p;
 ghost use Rattle.cores.specs.Core as x;
 
@@ -31,18 +34,19 @@ fn vector(e: Found) -> u32
 }
 
 fn interrupted(
+    b: &[u32],
     w: u32,
     read: u32,
     causes: u32,
-    event: Found,
     buffer: BufferChange,
     walks: WalkChange,
     write: Write,
 ) -> Plan
-    ensures { λ r. ⌜ r ≡ p.interrupted w read causes (x.vectorOf event) buffer walks write ⌝ }
+    requires { ⌜ length (now b) ≡ 256 ⌝ }
+    ensures { λ r. ⌜ r ≡ p.interrupted w read causes (x.vectorOf (event (now (b .entry)))) buffer walks write ⌝ }
 {
     let answer = Answer::Interrupt(interrupts::level(causes));
-    let core = CoreChange::Interrupt(w, read, causes, vector(event));
+    let core = CoreChange::Interrupt(w, read, causes, vector(local::event(b)));
     Plan {
         answer,
         core,
@@ -53,14 +57,15 @@ fn interrupted(
 }
 
 // An interrupt that leaves no effect but the walks that go.
-pub fn stopped(w: u32, causes: u32, event: Found, walks: WalkChange) -> Plan
-    ensures { λ r. ⌜ r ≡ p.interrupted w 0 causes (x.vectorOf event) BufferChange.Nothing walks Write.Nothing ⌝ }
+pub fn stopped(b: &[u32], w: u32, causes: u32, walks: WalkChange) -> Plan
+    requires { ⌜ length (now b) ≡ 256 ⌝ }
+    ensures { λ r. ⌜ r ≡ p.interrupted w 0 causes (x.vectorOf (event (now (b .entry)))) BufferChange.Nothing walks Write.Nothing ⌝ }
 {
     interrupted(
+        b,
         w,
         0,
         causes,
-        event,
         BufferChange::Nothing,
         walks,
         Write::Nothing,
@@ -79,19 +84,20 @@ fn change(i: Instruction, w: u32, read: u32) -> CoreChange
 
 // The end of an instruction that is not suppressed, with what else it does.
 pub fn finished(
+    b: &[u32],
     i: Instruction,
     w: u32,
     read: u32,
     causes: u32,
-    event: Found,
     buffer: BufferChange,
     walks: WalkChange,
     write: Write,
 ) -> Plan
-    ensures { λ r. ⌜ r ≡ p.finished i w read causes (x.vectorOf event) buffer walks write ⌝ }
+    requires { ⌜ length (now b) ≡ 256 ⌝ }
+    ensures { λ r. ⌜ r ≡ p.finished i w read causes (x.vectorOf (event (now (b .entry)))) buffer walks write ⌝ }
 {
     if causes != 0 {
-        return interrupted(w, read, causes, event, buffer, walks, write);
+        return interrupted(b, w, read, causes, buffer, walks, write);
     }
     let core = change(i, w, read);
     Plan {

@@ -1,23 +1,24 @@
 -- Predicates on instructions by their numbers: each is tested on every row of the tables.
 -- Assumes nothing.
-use mathlib.Core.Path.{_≡_, sym}
+use mathlib.Core.Path.{_≡_, sym, _∙_, refl}
 use mathlib.Core.List.{[], _∷_}
 use mathlib.Core.Bool.{Bool, true, false, not, _&&_, _||_}
-use Prim.Native.Nat.{ℕ, _<_, _*_, _/_, _%_, _^_}
+use Prim.Native.Nat.{ℕ, _<_, _+_, _*_, _/_, _%_, _^_}
 use lib.Dec.{T, eqb, ltb}
 use native.Mathlib.Omega.{arith}
 use borrow.Author.Tests.{eqb-true, ne-eqb, le-ltb}
-use Rattle.word.specs.Word.{if_then_else_}
+use Rattle.word.specs.Word.{if_then_else_, isSet, flag}
 use Rattle.word.proofs.Tests.{and-false, truth}
 use Rattle.decode.specs.declared.Load.the-variants.{Lh, Lw, Lhu}
 use Rattle.decode.specs.declared.Store.the-variants.{Sh, Sw}
 use Rattle.decode.specs.declared.System.the-variants.{Cas}
 use Rattle.decode.specs.declared.Instruction.{Instruction}
-use Rattle.decode.specs.Mnemonics.{number, among, ill}
+use Rattle.decode.specs.Mnemonics.{number, among, ill, alu, sysc}
 use Rattle.decode.proofs.Numbers.{every}
-use Rattle.decode.proofs.Ranges.{agree, ill-number}
+use Rattle.decode.proofs.Ranges.{agree, ill-number, sysc-number, alu-range}
 use Rattle.isa.specs.Core.{d, mal}
-use Rattle.isa.specs.Interrupts.{privileged}
+use Rattle.isa.specs.Interrupts.{privileged, mca}
+use Rattle.isa.specs.Steps.{eaBy, ovfBy, eventsBy}
 
 pub privileged-range : (i : Instruction) → ((ltb 50 (number i) && ltb (number i) 53) || (ltb 57 (number i) && ltb (number i) 61)) ≡ privileged i
 unfolding privileged
@@ -57,3 +58,35 @@ halves-width =
 pub mal-width : (i : Instruction) (a : ℕ) → (eqb (d i) 4 && not (eqb (a % 2 ^ 2) 0)) || (eqb (d i) 2 && not (eqb (a % 2) 0)) ≡ mal i a
 unfolding mal
 mal-width i a = rw (words-width i, halves-width i)
+
+-- ---- causes of the first 48 instructions
+
+-- none of them is a system call
+pub no-call : (i : Instruction) → number i < 48 → sysc i ≡ false
+no-call i h = sym (sysc-number i) ∙ ne-eqb (number i) 48 (λ p. omega arith)
+
+-- a load or a store is no ALU instruction
+pub no-overflow : (i : Instruction) → number i < 8 → alu i ≡ false
+no-overflow i h = sym (alu-range i) ∙ rw (le-ltb 7 (number i) (omega arith), le-ltb 35 (number i) (omega arith)) refl
+
+-- any other accesses nothing
+pub no-access : (i : Instruction) (a : ℕ) → 7 < number i → number i < 48 → mal i a ≡ false
+no-access i a l h =
+    sym (mal-width i a) ∙ rw (width-number i, le-ltb (number i) 8 (omega arith), ne-eqb (number i) 49 (λ p. omega arith)) refl
+
+-- so what is left of the sum is the external event, the page fault, and misalignment or overflow
+module _ (i : Instruction) (w p q : ℕ) (user io pfls : Bool) (status : ℕ) where
+  abbrev outside : ℕ
+  outside = flag (io && isSet status 1) * 2 + flag pfls * 32
+
+  few-causes : number i < 48 → mca (eventsBy i w p q user io pfls) status ≡ outside + flag (mal i (eaBy i w p)) * 8 + flag (ovfBy i w p q && isSet status 7) * 128
+  few-causes h = rw (← allowed i user (omega (arith, h)), no-call i h) (omega arith)
+
+  -- each addend under the name that its maker has
+  pub access-causes : (x y z : ℕ) → number i < 8 → x ≡ flag (io && isSet status 1) → y ≡ flag pfls → z ≡ flag (mal i (eaBy i w p)) →
+      x * 2 + y * 32 + z * 8 ≡ mca (eventsBy i w p q user io pfls) status
+  access-causes x y z h a b c = rw (few-causes (omega (arith, h)), no-overflow i h, a, b, c) (omega arith)
+
+  pub other-causes : (x y z : ℕ) → 7 < number i → number i < 48 → x ≡ flag (io && isSet status 1) → y ≡ flag pfls → z ≡ flag (ovfBy i w p q && isSet status 7) →
+      x * 2 + y * 32 + z * 128 ≡ mca (eventsBy i w p q user io pfls) status
+  other-causes x y z l h a b c = rw (few-causes h, no-access i (eaBy i w p) l h, a, b, c) (omega arith)

@@ -12,7 +12,7 @@ use Rattle.decode.specs.declared.System.the-variants.{Cas}
 use Rattle.decode.specs.declared.Instruction.{Instruction}
 use Rattle.decode.specs.declared.Instruction.the-variants.{Illegal}
 use Rattle.decode.specs.Fields.{rs, rt, rd, sa, imm, iindex}
-use Rattle.decode.specs.Mnemonics.{itype, rtype, alu, mulacc, cas, ill, sysc}
+use Rattle.decode.specs.Mnemonics.{itype, rtype, alu, mulacc, cas, movg2s, ill, sysc}
 use Rattle.units.specs.Alu.{alures, ovf, alucon}
 use Rattle.units.specs.Multiplication.{mures, mulcon}
 use Rattle.units.specs.Branch.{bcres, bcon}
@@ -21,7 +21,7 @@ use Rattle.isa.specs.declared.registers.Registers.{Registers}
 use Rattle.isa.specs.declared.outcomes.Operands.{Operands}
 use Rattle.isa.specs.declared.outcomes.Outcome.{Outcome}
 use Rattle.isa.specs.declared.interrupts.Events.{Events}
-use Rattle.isa.specs.Core.{gprAt, sprAt, putAt, after, lv, mal}
+use Rattle.isa.specs.Core.{gprAt, sprAt, putAt, lv, mal}
 use Rattle.isa.specs.Interrupts.{privileged, sprJisr}
 
 -- the service routine's first state (definition 54), but for the general registers
@@ -35,14 +35,16 @@ abbrev pub operandsOf : Registers → ℕ → Operands
 operandsOf c w =
     record { p = gprAt c (rs w); q = gprAt c (rt w); special = sprAt c (rd w); pc = c .pc; hi = c .hi; lo = c .lo }
 
--- an outcome is written; the special registers stay
-abbrev pub applied : Registers → Outcome → Registers
-applied c o = record { gpr = putAt (c .gpr) (o .n) (o .v); spr = c .spr; pc = o .pc; hi = o .hi; lo = o .lo }
-
--- movg2s, which alone writes a special register
-abbrev pub movedToSpecial : Registers → ℕ → Registers
-movedToSpecial c w =
-    record { gpr = c .gpr; spr = set (c .spr) (rd w) (gprAt c (rt w)); pc = after c; hi = c .hi; lo = c .lo }
+-- an outcome is written; only movg2s writes a special register
+abbrev pub withOutcome : Instruction → Registers → ℕ → Outcome → Registers
+withOutcome i c w o =
+    record {
+      gpr = putAt (c .gpr) (o .n) (o .v);
+      spr = if movg2s i then set (c .spr) (rd w) (gprAt c (rt w)) else c .spr;
+      pc = o .pc;
+      hi = o .hi;
+      lo = o .lo;
+    }
 
 abbrev pub afterBy : Operands → ℕ
 afterBy o = plus 32 (o .pc) 4

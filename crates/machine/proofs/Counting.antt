@@ -12,8 +12,8 @@ use Rattle.steps.specs.declared.Answer.{Answer}
 use Rattle.steps.specs.declared.Answer.the-variants.{Done, Interrupt, Refused}
 use Rattle.machine.specs.declared.run.Stop.{Stop}
 use Rattle.machine.specs.declared.run.Stop.the-variants as stop
-use Rattle.machine.specs.Step.{Stepped, step}
-use Rattle.machine.specs.Run.{Result, stopped, isAccepted, stopOf, runFrom}
+use Rattle.machine.specs.Step.{isAccepted, Stepped, step}
+use Rattle.machine.specs.Run.{Result, stopped, stopOf, runFrom}
 
 -- the tables and the memory after the first k steps of a schedule, each a single step
 pub tablesBy : ℕ → List ℕ → List ℕ → List ℕ → List ℕ

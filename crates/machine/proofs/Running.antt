@@ -18,8 +18,8 @@ use Rattle.steps.specs.declared.Answer.{Answer}
 use Rattle.machine.specs.declared.run.Ran.{Ran}
 use Rattle.machine.specs.declared.run.Stop.{Stop}
 use Rattle.machine.specs.declared.run.Stop.the-variants as stop
-use Rattle.machine.specs.Step.{Stepped, taken, step}
-use Rattle.machine.specs.Run.{Result, Is, stopped, isAccepted, stopOf, onStep, runFrom, whole, run}
+use Rattle.machine.specs.Step.{isAccepted, Stepped, taken, step}
+use Rattle.machine.specs.Run.{Result, Is, stopped, stopOf, onStep, runFrom, whole, run}
 use Rattle.machine.proofs.Taking.{is-sound}
 use Rattle.machine.proofs.Keeping.{step-sound}
 

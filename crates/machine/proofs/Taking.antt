@@ -5,12 +5,13 @@ use mathlib.Core.Bool.{true, false}
 use mathlib.Core.List.{List}
 use Prim.Native.Nat.{ℕ}
 use lib.ListN.{length}
+use Rattle.word.proofs.Tests.{true-false}
 use Rattle.tables.specs.Sound.{sound}
 use Rattle.steps.specs.declared.Answer.{Answer}
 use Rattle.steps.specs.declared.Answer.the-variants.{Done, Interrupt, Refused}
 use Rattle.machine.specs.Actions.{answerOf, tablesAfter, memoryAfter}
 use Rattle.machine.specs.Decide.{decided}
-use Rattle.machine.specs.Step.{Stepped, counted, after, taken, step}
+use Rattle.machine.specs.Step.{Stepped, isAccepted, counted, after, taken, step}
 
 module _ (t m s : List ℕ) where
   as-answer : (r : Answer) → r ≡ answerOf (decided t m s) → after r (decided t m s) t m ≡ taken t m s
@@ -31,6 +32,17 @@ module _ (t m s : List ℕ) where
   pub taken-refused : (n : ℕ) → Refused n ≡ answerOf (decided t m s) → Is (Refused n) (counted t) m
   unfolding after
   taken-refused n e = let p = as-answer (Refused n) e in (ap (λ x. x .answer) p, ap (λ x. x .tables) p, ap (λ x. x .memory) p)
+
+  -- the same by whether the answer is a refusal
+  pub taken-accepted : (r : Answer) → isAccepted r ≡ true → r ≡ answerOf (decided t m s) → Is r (tablesAfter (decided t m s) t) (memoryAfter (decided t m s) m)
+  taken-accepted Done a e = taken-done e
+  taken-accepted (Interrupt l) a e = taken-interrupt l e
+  taken-accepted (Refused n) a e = absurd (true-false (sym a))
+
+  pub taken-counted : (r : Answer) → isAccepted r ≡ false → r ≡ answerOf (decided t m s) → Is r (counted t) m
+  taken-counted Done a e = absurd (true-false a)
+  taken-counted (Interrupt l) a e = absurd (true-false a)
+  taken-counted (Refused n) a e = taken-refused n e
 
   pub not-sound : sound t (length m) ≡ false → (Refused 4 ≡ step t m s .answer) × (t ≡ step t m s .tables) × (m ≡ step t m s .memory)
   unfolding step

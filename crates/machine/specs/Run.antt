@@ -13,7 +13,7 @@ use Rattle.steps.specs.declared.Answer.the-variants.{Done, Interrupt, Refused}
 use Rattle.machine.specs.declared.run.Ran.{Ran}
 use Rattle.machine.specs.declared.run.Stop.{Stop}
 use Rattle.machine.specs.declared.run.Stop.the-variants as stop
-use Rattle.machine.specs.Step.{Stepped, step}
+use Rattle.machine.specs.Step.{Stepped, isAccepted, step}
 
 -- how many steps were accepted, why it stopped, and the machine after it
 pub record Result : Type 0 where
@@ -26,11 +26,6 @@ abbrev pub stopped : ℕ → Stop → List ℕ → List ℕ → Result
 stopped n w t m = record { accepted = n; why = w; tables = t; memory = m }
 
 -- a refusal ends the run
-abbrev pub isAccepted : Answer → Bool
-isAccepted (Refused x) = false
-isAccepted Done = true
-isAccepted (Interrupt l) = true
-
 abbrev pub stopOf : Answer → Stop
 stopOf (Refused x) = stop.Refused x
 stopOf Done = stop.End

@@ -21,6 +21,11 @@ pub record Stepped : Type 0 where
   pub tables : List ℕ
   pub memory : List ℕ
 
+abbrev pub isAccepted : Answer → Bool
+isAccepted (Refused n) = false
+isAccepted Done = true
+isAccepted (Interrupt l) = true
+
 -- one more refusal; the count stays at its largest
 unfoldable pub counted : List ℕ → List ℕ
 counted t = if ltb (refusalsOf t) (2 ^ 32 - 1) then set t refusals (refusalsOf t + 1) else t

@@ -12,6 +12,16 @@ ghost use lib.ListN.{length};
 ghost use Rattle.tables.specs.Sound.{sound};
 ghost use Rattle.machine.specs.Step as x;
 
+pub(crate) fn is_accepted(a: Answer) -> bool
+    ensures { λ r. ⌜ r ≡ x.isAccepted a ⌝ }
+{
+    match a {
+        Answer::Done => true,
+        Answer::Interrupt(_) => true,
+        Answer::Refused(_) => false,
+    }
+}
+
 // One more refusal; the count stays at its largest.
 fn count(t: &mut [u32])
     requires { ⌜ 32 ≤ length (now t) ⌝ }
@@ -32,20 +42,12 @@ pub fn take(t: &mut [u32], m: &mut [u8], s: &[u32]) -> Answer
 {
     let a = decide::decide(t, m, s);
     let r = action::answer(a);
-    match r {
-        Answer::Done => {
-            action::commit(t, m, a);
-            r
-        }
-        Answer::Interrupt(_) => {
-            action::commit(t, m, a);
-            r
-        }
-        Answer::Refused(_) => {
-            count(t);
-            r
-        }
+    if is_accepted(r) {
+        action::commit(t, m, a);
+        return r;
     }
+    count(t);
+    r
 }
 
 // A step on any tables.

@@ -1,4 +1,5 @@
 // The operation Run: a schedule of steps, with one check of soundness.
+use super::is_accepted;
 use super::take;
 use steps::Answer;
 ghost use mathlib.Core.Path.{_≡_};
@@ -24,16 +25,6 @@ fn result(accepted: u32, stop: Stop) -> Ran
     ensures { λ r. ⌜ (r .accepted ≡ accepted) × (r .stop ≡ stop) ⌝ }
 {
     Ran { accepted, stop }
-}
-
-fn is_accepted(a: Answer) -> bool
-    ensures { λ r. ⌜ r ≡ x.isAccepted a ⌝ }
-{
-    match a {
-        Answer::Done => true,
-        Answer::Interrupt(_) => true,
-        Answer::Refused(_) => false,
-    }
 }
 
 // Why a run stops after an answer that is a refusal.

@@ -1,13 +1,13 @@
 use borrow.Author.Needs.{needs}
 use Rattle.machine.proofs.take.Statement.{statement}
 use Rattle.machine.proofs.take.Tie as tie
-use mathlib.Core.Path.{sym, _∙_, ap, refl}
+use mathlib.Core.Path.{sym, _∙_, ap}
 use denote.Ref.{now}
 use lib.ListN.{length}
 use native.Mathlib.Omega.{arith}
 use Rattle.machine.proofs.Fitting.{header-words}
 use Rattle.machine.proofs.Deciding.{decided-doable}
-use Rattle.machine.proofs.Taking.{taken-done, taken-interrupt, taken-refused}
+use Rattle.machine.proofs.Taking.{taken-accepted, taken-counted}
 use Rattle.machine.specs.Actions.{answerOf}
 
 decide-requires : tie.Need-decide-requires
@@ -16,23 +16,11 @@ decide-requires c κs = search needs
 answer-requires : tie.Need-answer-requires
 answer-requires c κs = search needs
 
-enum-told : tie.Need-enum-told
-enum-told c = search needs
+is-accepted-requires : tie.Need-is-accepted-requires
+is-accepted-requires c κs = search needs
 
 commit-requires : tie.Need-commit-requires
 commit-requires c κs = (c .before .before .before .before .before .before .before .before .before .before .before .pre, rw (c .before .before .before .before .before .decide .ensures) (decided-doable (now (c .before .before .before .before .before .before .before .before .before .before .before .args .t)) (now (c .before .before .before .before .before .before .before .before .before .before .before .args .m)) (c .before .before .before .before .before .before .before .before .before .before .before .pre) (λ i. omega (arith, c .before .before .before .before .before .before .before .before .before .before .slice-known .given i)) (λ i. omega (arith, c .before .before .before .before .before .before .before .before .before .slice-known2 .given i)) (now (c .before .before .before .before .before .before .before .before .before .before .before .args .s))))
-
-enum-told-2 : tie.Need-enum-told-2
-enum-told-2 c = search needs
-
-commit-requires-2 : tie.Need-commit-requires-2
-commit-requires-2 c κs = (c .before .before .before .before .before .before .before .before .before .before .before .pre, rw (c .before .before .before .before .before .decide .ensures) (decided-doable (now (c .before .before .before .before .before .before .before .before .before .before .before .args .t)) (now (c .before .before .before .before .before .before .before .before .before .before .before .args .m)) (c .before .before .before .before .before .before .before .before .before .before .before .pre) (λ i. omega (arith, c .before .before .before .before .before .before .before .before .before .before .slice-known .given i)) (λ i. omega (arith, c .before .before .before .before .before .before .before .before .before .slice-known2 .given i)) (now (c .before .before .before .before .before .before .before .before .before .before .before .args .s))))
-
-enum-told-3 : tie.Need-enum-told-3
-enum-told-3 c = search needs
-
-count-requires : tie.Need-count-requires
-count-requires c κs = let h = header-words (now (c .before .before .before .before .before .before .before .before .before .before .args .t)) (length (now (c .before .before .before .before .before .before .before .before .before .before .args .m))) (c .before .before .before .before .before .before .before .before .before .before .pre) in omega (arith, h)
 
 same-length : tie.Need-same-length
 same-length c = search needs
@@ -41,7 +29,10 @@ same-length-2 : tie.Need-same-length-2
 same-length-2 c = search needs
 
 returns : tie.Need-returns
-returns c = let x = taken-done (now (c .before .before .before .before .before .before .before .before .before .before .before .before .before .before .before .before .args .t)) (now (c .before .before .before .before .before .before .before .before .before .before .before .before .before .before .before .before .args .m)) (now (c .before .before .before .before .before .before .before .before .before .before .before .before .before .before .before .before .args .s)) (sym (c .before .before .before .before .before .before .before .enum-told .given .1) ∙ (c .before .before .before .before .before .before .before .before .before .answer .ensures ∙ ap answerOf (c .before .before .before .before .before .before .before .before .before .before .decide .ensures))) in (c .before .before .before .before .before .before .before .enum-told .given .1 ∙ x .0, (c .before .before .before .before .commit .ensures .0 ∙ (rw (c .before .before .before .before .before .before .before .before .before .before .decide .ensures) (x .1)), c .before .before .before .before .commit .ensures .1 ∙ (rw (c .before .before .before .before .before .before .before .before .before .before .decide .ensures) (x .2))))
+returns c = let x = taken-accepted (now (c .before .before .before .before .before .before .before .before .before .before .before .before .before .before .before .before .args .t)) (now (c .before .before .before .before .before .before .before .before .before .before .before .before .before .before .before .before .args .m)) (now (c .before .before .before .before .before .before .before .before .before .before .before .before .before .before .before .before .args .s)) _ (sym (c .before .before .before .before .before .before .before .before .is-accepted .ensures) ∙ c .before .before .before .before .before .before .before .if1 .taken) (c .before .before .before .before .before .before .before .before .before .answer .ensures ∙ ap answerOf (c .before .before .before .before .before .before .before .before .before .before .decide .ensures)) in (x .0, (c .before .before .before .before .commit .ensures .0 ∙ rw (c .before .before .before .before .before .before .before .before .before .before .decide .ensures) (x .1), c .before .before .before .before .commit .ensures .1 ∙ rw (c .before .before .before .before .before .before .before .before .before .before .decide .ensures) (x .2)))
+
+count-requires : tie.Need-count-requires
+count-requires c κs = let h = header-words (now (c .before .before .before .before .before .before .before .before .before .before .args .t)) (length (now (c .before .before .before .before .before .before .before .before .before .before .args .m))) (c .before .before .before .before .before .before .before .before .before .before .pre) in omega (arith, h)
 
 same-length-3 : tie.Need-same-length-3
 same-length-3 c = search needs
@@ -50,16 +41,7 @@ same-length-4 : tie.Need-same-length-4
 same-length-4 c = search needs
 
 returns-2 : tie.Need-returns-2
-returns-2 c = let x = taken-interrupt (now (c .before .before .before .before .before .before .before .before .before .before .before .before .before .before .before .before .args .t)) (now (c .before .before .before .before .before .before .before .before .before .before .before .before .before .before .before .before .args .m)) (now (c .before .before .before .before .before .before .before .before .before .before .before .before .before .before .before .before .args .s)) _ (sym (c .before .before .before .before .before .before .before .enum-told2 .given .1) ∙ (c .before .before .before .before .before .before .before .before .before .answer .ensures ∙ ap answerOf (c .before .before .before .before .before .before .before .before .before .before .decide .ensures))) in (c .before .before .before .before .before .before .before .enum-told2 .given .1 ∙ x .0, (c .before .before .before .before .commit2 .ensures .0 ∙ (rw (c .before .before .before .before .before .before .before .before .before .before .decide .ensures) (x .1)), c .before .before .before .before .commit2 .ensures .1 ∙ (rw (c .before .before .before .before .before .before .before .before .before .before .decide .ensures) (x .2))))
-
-same-length-5 : tie.Need-same-length-5
-same-length-5 c = search needs
-
-same-length-6 : tie.Need-same-length-6
-same-length-6 c = search needs
-
-returns-3 : tie.Need-returns-3
-returns-3 c = let x = taken-refused (now (c .before .before .before .before .before .before .before .before .before .before .before .before .before .args .t)) (now (c .before .before .before .before .before .before .before .before .before .before .before .before .before .args .m)) (now (c .before .before .before .before .before .before .before .before .before .before .before .before .before .args .s)) _ (sym (c .before .before .before .before .enum-told3 .given .1) ∙ (c .before .before .before .before .before .before .answer .ensures ∙ ap answerOf (c .before .before .before .before .before .before .before .decide .ensures))) in (c .before .before .before .before .enum-told3 .given .1 ∙ x .0, (c .before .before .count .ensures ∙ x .1, x .2))
+returns-2 c = let x = taken-counted (now (c .before .before .before .before .before .before .before .before .before .before .before .before .before .args .t)) (now (c .before .before .before .before .before .before .before .before .before .before .before .before .before .args .m)) (now (c .before .before .before .before .before .before .before .before .before .before .before .before .before .args .s)) _ (sym (c .before .before .before .before .before .is-accepted .ensures) ∙ c .before .before .before .before .if1 .left) (c .before .before .before .before .before .before .answer .ensures ∙ ap answerOf (c .before .before .before .before .before .before .before .decide .ensures)) in (x .0, (c .before .before .count .ensures ∙ x .1, x .2))
 
 pub take-spec : {M : Type 1} → statement M
 take-spec =
@@ -67,18 +49,12 @@ take-spec =
     (tie.spec
     decide-requires
     answer-requires
-    enum-told
+    is-accepted-requires
     commit-requires
-    enum-told-2
-    commit-requires-2
-    enum-told-3
-    count-requires
     same-length
     same-length-2
     returns
+    count-requires
     same-length-3
     same-length-4
-    returns-2
-    same-length-5
-    same-length-6
-    returns-3)
+    returns-2)

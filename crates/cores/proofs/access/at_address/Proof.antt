@@ -8,6 +8,7 @@ use Rattle.cores.proofs.Accesses.{access-aligned}
 use denote.Ref.{now}
 use mathlib.Core.Bool.{false}
 use Rattle.tables.specs.Views.{registersOf}
+use Rattle.apic.specs.LocalApic.{event}
 use Rattle.cores.specs.Core.{isEvent}
 
 avoids-ports-requires : tie.Need-avoids-ports-requires
@@ -44,7 +45,7 @@ returns-3 : tie.Need-returns-3
 returns-3 c = c .stopped .ensures ∙ (rw (c .before .before .before .before .before .of .ensures) refl ∙ address-stopped _ _ _ _ _ (rw (← (c .before .before .before .before .before .before .before .before .avoids-ports .ensures), ← (c .before .before .before .before .before .before .before .is-port .ensures)) (c .before .before .before .before .before .before .if1 .left)) (sym (c .before .before .has-hazard .ensures) ∙ c .before .if3 .left) (rw (← (c .before .before .before .before .before .of .ensures)) (sym (c .before .before .before .before .suppress .ensures) ∙ c .before .before .before .if2 .taken)))
 
 performed-requires : tie.Need-performed-requires
-performed-requires c κs = (c .before .before .before .before .before .before .before .before .pre .0, (c .before .before .before .before .before .before .before .before .pre .1 .0, (c .before .before .before .before .before .before .before .before .pre .1 .1 .0, (c .before .before .before .before .before .before .before .before .pre .1 .1 .1 .0, access-aligned (c .before .before .before .before .before .before .before .before .args .i) (registersOf (now (c .before .before .before .before .before .before .before .before .args .b))) (c .before .before .before .before .before .before .before .before .args .w) (c .before .before .before .before .before .before .before .before .args .a) (isEvent (c .before .before .before .before .before .before .before .before .args .event)) false (c .before .before .before .before .before .before .before .before .pre .1 .1 .1 .0) (rw (← (c .before .before .of .ensures)) (sym (c .before .suppress .ensures) ∙ c .if2 .left)) (c .before .before .before .before .before .before .before .before .pre .1 .1 .1 .1)))))
+performed-requires c κs = (c .before .before .before .before .before .before .before .before .pre .0, (c .before .before .before .before .before .before .before .before .pre .1 .0, (c .before .before .before .before .before .before .before .before .pre .1 .1 .0, (c .before .before .before .before .before .before .before .before .pre .1 .1 .1 .0, access-aligned (c .before .before .before .before .before .before .before .before .args .i) (registersOf (now (c .before .before .before .before .before .before .before .before .args .b))) (c .before .before .before .before .before .before .before .before .args .w) (c .before .before .before .before .before .before .before .before .args .a) (isEvent (event (now (c .before .before .before .before .before .before .before .before .args .b)))) false (c .before .before .before .before .before .before .before .before .pre .1 .1 .1 .0) (rw (← (c .before .before .of .ensures)) (sym (c .before .suppress .ensures) ∙ c .if2 .left)) (c .before .before .before .before .before .before .before .before .pre .1 .1 .1 .1)))))
 
 returns-4 : tie.Need-returns-4
 returns-4 c = c .performed .ensures ∙ (rw (c .before .before .before .of .ensures) refl ∙ address-performed _ _ _ _ _ (rw (← (c .before .before .before .before .before .before .avoids-ports .ensures), ← (c .before .before .before .before .before .is-port .ensures)) (c .before .before .before .before .if1 .left)) (rw (← (c .before .before .before .of .ensures)) (sym (c .before .before .suppress .ensures) ∙ c .before .if2 .left)))

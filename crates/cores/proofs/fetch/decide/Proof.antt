@@ -5,9 +5,6 @@ use mathlib.Core.Path.{sym, _∙_, ap, refl}
 use borrow.Author.Tests.{eq-eqb, ne-eqb, lt-ltb, le-leb, lt-leb, le-ltb}
 use Rattle.cores.proofs.Judging.{step-waits, step-misaligned, step-fetch}
 
-event-requires : tie.Need-event-requires
-event-requires c κs = search needs
-
 shared-slice-read-if1 : tie.Need-shared-slice-read-if1
 shared-slice-read-if1 c = search needs
 
@@ -27,19 +24,18 @@ stopped-requires : tie.Need-stopped-requires
 stopped-requires c κs = search needs
 
 returns-2 : tie.Need-returns-2
-returns-2 c = c .stopped .ensures ∙ (rw (c .before .without .ensures, c .before .before .before .before .before .before .event .ensures) (step-misaligned _ _ _ _ (eq-eqb _ _ (c .before .before .before .before .if1 .left)) (rw (← (c .before .before .before .pc .ensures)) (ne-eqb _ _ (c .before .before .if2 .taken)))))
+returns-2 c = c .stopped .ensures ∙ (rw (c .before .without .ensures) (step-misaligned _ _ _ _ (eq-eqb _ _ (c .before .before .before .before .if1 .left)) (rw (← (c .before .before .before .pc .ensures)) (ne-eqb _ _ (c .before .before .if2 .taken)))))
 
 by-walk-requires : tie.Need-by-walk-requires
-by-walk-requires c κs = (c .before .before .before .before .before .before .before .pre .0, (c .before .before .before .before .before .before .before .pre .1 .0, (c .before .before .before .before .before .before .before .pre .1 .1, rw (← (c .before .pc .ensures)) (c .if2 .left))))
+by-walk-requires c κs = (c .before .before .before .before .before .before .pre .0, (c .before .before .before .before .before .before .pre .1 .0, (c .before .before .before .before .before .before .pre .1 .1, rw (← (c .before .pc .ensures)) (c .if2 .left))))
 
 returns-3 : tie.Need-returns-3
-returns-3 c = c .by-walk .ensures ∙ (rw (c .before .before .before .before .before .event .ensures) (step-fetch _ _ _ _ (eq-eqb _ _ (c .before .before .before .if1 .left)) (rw (← (c .before .before .pc .ensures)) (eq-eqb _ _ (c .before .if2 .left)))))
+returns-3 c = c .by-walk .ensures ∙ step-fetch _ _ _ _ (eq-eqb _ _ (c .before .before .before .if1 .left)) (rw (← (c .before .before .pc .ensures)) (eq-eqb _ _ (c .before .if2 .left)))
 
 pub decide-spec : {M : Type 1} → statement M
 decide-spec =
     tie.close
     (tie.spec
-    event-requires
     shared-slice-read-if1
     refused-requires
     returns
