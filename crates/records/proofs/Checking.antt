@@ -12,8 +12,10 @@ use borrow.Author.Tests.{ltb-true, lt-ltb, le-ltb, eq-eqb, ne-eqb}
 use Rattle.layout.specs.Layout.{recordAt}
 use Rattle.word.specs.Word.{flag}
 use Rattle.records.specs.Records.{chain, chainAt, count, each, all, small}
+use Rattle.records.specs.declared.check.Rule.{Rule}
+use Rattle.records.specs.Rules.{obeys, fits}
 use Rattle.records.specs.Tallied.{Tallied}
-use Rattle.records.proofs.Counts.{either, and-left}
+use Rattle.records.proofs.Counts.{either, and-left, and-both}
 use Rattle.records.proofs.Three.{count-cons}
 
 -- one step of a chain, with k - 1 of the fuel left
@@ -78,22 +80,22 @@ check-low b h n k e C p d = ltb-true n 32 (and-left (small n) (all small (chain 
 pub check-low-next : (b : List ℕ) (h n k : ℕ) → all small (chainAt b h) ≡ true → Checking small b h n k → 0 < k → n ≢ 0 → Checking small b h (getD b (recordAt n) 0) (k - 1)
 check-low-next b h n k e C p d = check-next small b h n k C p d (lt-ltb n 32 (check-low b h n k e C p d))
 
--- a count of the members
-pub record Tallying (b : List ℕ) (h : ℕ) (s t : List ℕ) (n k : ℕ) : Type 0 where
-  pub check : Checking small b h n k
+-- a count of the members, where each must fit
+pub record Tallying (b : List ℕ) (h : ℕ) (rule : Rule) (s t : List ℕ) (n k : ℕ) : Type 0 where
+  pub check : Checking (fits rule b) b h n k
   pub long : length t ≡ 32
   pub counts : (m : ℕ) → m < 32 → getD t m 0 + count m (chain k b n) ≡ getD s m 0 + count m (chainAt b h)
   pub bound : (m : ℕ) → getD t m 0 + k ≤ 96
 
-module _ (b : List ℕ) (h : ℕ) (s : List ℕ) where
-  pub tally-start : length s ≡ 32 → ((m : ℕ) → getD s m 0 ≤ 64) → Tallying b h s s (getD b h 0) 32
-  tally-start l f = record { check = check-start small b h; long = l; counts = λ m p. refl; bound = λ m. omega (arith, f m) }
+module _ (b : List ℕ) (h : ℕ) (rule : Rule) (s : List ℕ) where
+  pub tally-start : length s ≡ 32 → ((m : ℕ) → getD s m 0 ≤ 64) → Tallying b h rule s s (getD b h 0) 32
+  tally-start l f = record { check = check-start (fits rule b) b h; long = l; counts = λ m p. refl; bound = λ m. omega (arith, f m) }
 
-  module _ (t : List ℕ) (n k : ℕ) (C : Tallying b h s t n k) where
-    pub tally-next : 0 < k → n ≢ 0 → n < 32 → Tallying b h s (set t n (getD t n 0 + 1)) (getD b (recordAt n) 0) (k - 1)
-    tally-next p d l =
+  module _ (t : List ℕ) (n k : ℕ) (C : Tallying b h rule s t n k) where
+    pub tally-next : 0 < k → n ≢ 0 → n < 32 → obeys rule b n ≡ true → Tallying b h rule s (set t n (getD t n 0 + 1)) (getD b (recordAt n) 0) (k - 1)
+    tally-next p d l o =
         record {
-          check = check-next small b h n k (C .check) p d (lt-ltb n 32 l);
+          check = check-next (fits rule b) b h n k (C .check) p d (and-both (small n) (obeys rule b n) (lt-ltb n 32 l) o);
           long = length-set t n (getD t n 0 + 1) ∙ C .long;
           counts = λ m q. either (ℕ-discrete m n)
               (λ e. omega (arith, C .counts m q, ap (count m) (chain-step k b n p d), count-cons m n (chain (k - 1) b (getD b (recordAt n) 0)), ap flag (eq-eqb m n e), same m e))
@@ -109,14 +111,20 @@ module _ (b : List ℕ) (h : ℕ) (s : List ℕ) where
     tally-done : chain k b n ≡ [] → (m : ℕ) → m < 32 → getD t m 0 ≡ getD s m 0 + count m (chainAt b h)
     tally-done e m q = omega (arith, C .counts m q, count-nil m (chain k b n) e)
 
-    pub tally-zero : n ≡ 0 → Tallied b h s t true
-    tally-zero e = record { long = C .long; result = check-zero small b h n k (C .check) e; counts = λ _. tally-done (chain-zero k b n e) }
+    pub tally-zero : n ≡ 0 → Tallied b h rule s t true
+    tally-zero e = record { long = C .long; result = check-zero (fits rule b) b h n k (C .check) e; counts = λ _. tally-done (chain-zero k b n e) }
 
-    pub tally-out : k ≤ 0 → Tallied b h s t true
-    tally-out e = record { long = C .long; result = check-out small b h n k (C .check) e; counts = λ _. tally-done (chain-none k b n (omega arith)) }
+    pub tally-out : k ≤ 0 → Tallied b h rule s t true
+    tally-out e = record { long = C .long; result = check-out (fits rule b) b h n k (C .check) e; counts = λ _. tally-done (chain-none k b n (omega arith)) }
 
-    pub tally-big : 0 < k → n ≢ 0 → 32 ≤ n → Tallied b h s t false
-    tally-big p d l = record { long = C .long; result = check-fail small b h n k (C .check) p d (le-ltb n 32 l); counts = λ e. absurd (false≢true e) }
+    tally-fail : 0 < k → n ≢ 0 → fits rule b n ≡ false → Tallied b h rule s t false
+    tally-fail p d e = record { long = C .long; result = check-fail (fits rule b) b h n k (C .check) p d e; counts = λ e. absurd (false≢true e) }
+
+    pub tally-big : 0 < k → n ≢ 0 → 32 ≤ n → Tallied b h rule s t false
+    tally-big p d l = tally-fail p d (rw (le-ltb n 32 l))
+
+    pub tally-bad : 0 < k → n ≢ 0 → n < 32 → obeys rule b n ≡ false → Tallied b h rule s t false
+    tally-bad p d l o = tally-fail p d (rw (lt-ltb n 32 l, o))
 
 -- the length of a chain
 pub record Measuring (b : List ℕ) (h n k l : ℕ) : Type 0 where

@@ -1,5 +1,5 @@
 -- Laws of count, each and all.
-use mathlib.Core.Path.{_≡_, refl, ap, _∙_}
+use mathlib.Core.Path.{_≡_, refl, sym, ap, _∙_}
 use mathlib.Core.Logic.{_⊎_, inl, inr, ⊎-elim}
 use native.Mathlib.Decide.{ℕ-discrete}
 use Prim.Native.Nat.{ℕ, zero, suc, _+_, _<_, _≤_}
@@ -72,6 +72,36 @@ pub all-intro : (p : ℕ → Bool) (l : List ℕ) → ((n : ℕ) → 0 < count n
 unfolding all
 all-intro p [] f = refl
 all-intro p (x ∷ l) f = and-both (p x) (all p l) (f x (count-head x l)) (all-intro p l (λ n h. f n (count-more n x l h)))
+
+pub all-append : (p : ℕ → Bool) (s t : List ℕ) → all p (s ++ t) ≡ all p s && all p t
+unfolding all
+all-append p [] t = refl
+all-append p (x ∷ s) t = ap (λ (r : Bool). p x && r) (all-append p s t) ∙ group (p x) (all p s) (all p t)
+  where
+    group : (a b c : Bool) → a && (b && c) ≡ (a && b) && c
+    group true b c = refl
+    group false b c = refl
+
+-- two tests of every element are one
+all-and : (p q : ℕ → Bool) (l : List ℕ) → all (λ n. p n && q n) l ≡ all p l && all q l
+unfolding all
+all-and p q [] = refl
+all-and p q (x ∷ l) = ap (λ (r : Bool). (p x && q x) && r) (all-and p q l) ∙ change (p x) (q x) (all p l) (all q l)
+  where
+    change : (a b c d : Bool) → (a && b) && (c && d) ≡ (a && c) && (b && d)
+    change true true c d = refl
+    change true false true d = refl
+    change true false false d = refl
+    change false b c d = refl
+
+pub all-both : (p q : ℕ → Bool) (l : List ℕ) → all p l ≡ true → all q l ≡ true → all (λ n. p n && q n) l ≡ true
+all-both p q l e f = all-and p q l ∙ and-both (all p l) (all q l) e f
+
+pub all-left : (p q : ℕ → Bool) (l : List ℕ) → all (λ n. p n && q n) l ≡ true → all p l ≡ true
+all-left p q l e = and-left (all p l) (all q l) (sym (all-and p q l) ∙ e)
+
+pub all-right : (p q : ℕ → Bool) (l : List ℕ) → all (λ n. p n && q n) l ≡ true → all q l ≡ true
+all-right p q l e = and-right (all p l) (all q l) (sym (all-and p q l) ∙ e)
 
 pub either : {A B : Type 0} → Dec A → (A → B) → ((A → ⊥) → B) → B
 either (yes a) f g = f a

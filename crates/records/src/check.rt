@@ -21,13 +21,13 @@ ghost use Rattle.records.specs.Contents as y;
 ghost use Rattle.records.specs.Rules as z;
 ghost use Rattle.records.specs.Tallied.{Tallied};
 
-// Counts the records of a chain, of which none may be 32 or more; at most 32 of them.
-fn tally(b: &[u32], head: usize, seen: &mut [u8; 32]) -> bool
+// Counts the records of a chain, at most 32 of them; each must be below 32 and obey the chain's rule.
+fn tally(b: &[u32], head: usize, rule: Rule, seen: &mut [u8; 32]) -> bool
     requires { ⌜ length (now b) ≡ 256 ⌝ }
     requires { ⌜ head < 256 ⌝ }
     requires { ⌜ length (now seen) ≡ 32 ⌝ }
     requires { ⌜ ((m : ℕ) → getD (now seen) m 0 ≤ 64) ⌝ }
-    ensures { λ r. ⌜ Tallied (now (b .entry)) head (now (seen .entry)) (now (seen .exit)) r ⌝ }
+    ensures { λ r. ⌜ Tallied (now (b .entry)) head rule (now (seen .entry)) (now (seen .exit)) r ⌝ }
 {
     let mut n = b[head];
     let mut k: usize = 32;
@@ -36,6 +36,9 @@ fn tally(b: &[u32], head: usize, seen: &mut [u8; 32]) -> bool
             return true;
         }
         if 32 <= n {
+            return false;
+        }
+        if !obeys(b, n, rule) {
             return false;
         }
         let i = n as usize;
@@ -60,19 +63,19 @@ fn each_once(seen: &[u8; 32]) -> bool
     true
 }
 
-// Whether each of records 1 to 31 is on the chains once, and no other is.
-fn records_once(b: &[u32]) -> bool
+// Whether each of records 1 to 31 is on the chains once, no other is, and each obeys its chain's rule.
+fn records_once(b: &[u32], bytes: usize) -> bool
     requires { ⌜ length (now b) ≡ 256 ⌝ }
-    ensures { λ r. ⌜ r ≡ x.onceEach (now (b .entry)) && x.noOther (now (b .entry)) ⌝ }
+    ensures { λ r. ⌜ r ≡ z.ruled bytes (now (b .entry)) && x.onceEach (now (b .entry)) ⌝ }
 {
     let mut seen = [0u8; 32];
-    if !tally(b, STORE_HEAD, &mut seen) {
+    if !tally(b, STORE_HEAD, Rule::Store(bytes), &mut seen) {
         return false;
     }
-    if !tally(b, WALK_HEAD, &mut seen) {
+    if !tally(b, WALK_HEAD, Rule::Walk, &mut seen) {
         return false;
     }
-    if !tally(b, FREE_HEAD, &mut seen) {
+    if !tally(b, FREE_HEAD, Rule::Blank, &mut seen) {
         return false;
     }
     each_once(&seen)
@@ -143,7 +146,6 @@ fn walk_sound(w: Walk) -> bool
 // What each record of a chain must be.
 enum Rule {
     Blank,
-    LastBlank,
     Store(usize),
     Walk,
 }
@@ -160,7 +162,6 @@ fn obeys(b: &[u32], n: u32, rule: Rule) -> bool
     let last = b[i + 3];
     match rule {
         Rule::Blank => (first == 0) & ((second == 0) & (last == 0)),
-        Rule::LastBlank => last == 0,
         Rule::Store(bytes) => store_sound(
             bytes,
             Store {
@@ -169,29 +170,8 @@ fn obeys(b: &[u32], n: u32, rule: Rule) -> bool
                 width: last,
             },
         ),
-        Rule::Walk => walk_sound(Walk { first, second }),
+        Rule::Walk => walk_sound(Walk { first, second }) & (last == 0),
     }
-}
-
-// Whether each record of a chain is what it must be.
-fn all_obey(b: &[u32], head: usize, rule: Rule) -> bool
-    requires { ⌜ (length (now b) ≡ 256) × (head < 256) ⌝ }
-    requires { ⌜ x.all x.small (x.chainAt (now b) head) ≡ true ⌝ }
-    ensures { λ r. ⌜ r ≡ x.all (z.obeys rule (now (b .entry))) (x.chainAt (now (b .entry)) head) ⌝ }
-{
-    let mut n = b[head];
-    let mut k: usize = 32;
-    while 0 < k {
-        if n == 0 {
-            return true;
-        }
-        if !obeys(b, n, rule) {
-            return false;
-        }
-        n = b[RECORDS + RECORD_WORDS * (n as usize)];
-        k -= 1;
-    }
-    true
 }
 
 // Whether record 0 is zero.
@@ -200,29 +180,6 @@ fn first_blank(b: &[u32]) -> bool
     ensures { λ r. ⌜ r ≡ x.firstBlank (now (b .entry)) ⌝ }
 {
     (b[RECORDS] == 0) & obeys(b, 0, Rule::Blank)
-}
-
-// Whether the records of a block are linked as they must be.
-fn linked(b: &[u32]) -> bool
-    requires { ⌜ length (now b) ≡ 256 ⌝ }
-    ensures { λ r. ⌜ r ≡ x.linked (now (b .entry)) ⌝ }
-{
-    if !records_once(b) {
-        return false;
-    }
-    if 8 < chain_length(b, STORE_HEAD) {
-        return false;
-    }
-    if 23 < chain_length(b, WALK_HEAD) {
-        return false;
-    }
-    if !all_obey(b, FREE_HEAD, Rule::Blank) {
-        return false;
-    }
-    if !all_obey(b, WALK_HEAD, Rule::LastBlank) {
-        return false;
-    }
-    first_blank(b)
 }
 
 // Whether the walk is among those from record `start` on, of which `fuel` may follow.
@@ -280,13 +237,16 @@ pub fn sound_records(b: &[u32], bytes: usize) -> bool
     requires { ⌜ length (now b) ≡ 256 ⌝ }
     ensures { λ r. ⌜ r ≡ y.soundRecords bytes (now (b .entry)) ⌝ }
 {
-    if !linked(b) {
+    if !records_once(b, bytes) {
         return false;
     }
-    if !all_obey(b, STORE_HEAD, Rule::Store(bytes)) {
+    if 8 < chain_length(b, STORE_HEAD) {
         return false;
     }
-    if !all_obey(b, WALK_HEAD, Rule::Walk) {
+    if 23 < chain_length(b, WALK_HEAD) {
+        return false;
+    }
+    if !first_blank(b) {
         return false;
     }
     walks_differ(b)

@@ -3,8 +3,11 @@
 use borrow.Author.Needs.{needs}
 use mathlib.Core.Path.{_≡_, sym, ap, _∙_}
 use Prim.Native.Nat.{ℕ}
+use mathlib.Core.Bool.{Bool, _&&_}
 use mathlib.Core.List.{List}
+use denote.Ref.{now}
 use Rattle.records.specs.declared.check.Rule.{Rule}
+use Rattle.records.specs.Records.{lastBlank}
 use Rattle.records.specs.Rules.{obeys}
 use Rattle.records.proofs.check.obeys.Statement.{statement}
 use Rattle.records.proofs.check.obeys.Tie as tie
@@ -48,17 +51,14 @@ shared-slice-read-last c = search needs
 enum-told : tie.Need-enum-told
 enum-told c = search needs
 
-enum-told-2 : tie.Need-enum-told-2
-enum-told-2 c = search needs
-
 enum-known-rule : tie.Need-enum-known-rule
 enum-known-rule c = search needs
 
 store-sound-requires : tie.Need-store-sound-requires
 store-sound-requires c κs = search needs
 
-enum-told-3 : tie.Need-enum-told-3
-enum-told-3 c = search needs
+enum-told-2 : tie.Need-enum-told-2
+enum-told-2 c = search needs
 
 walk-sound-requires : tie.Need-walk-sound-requires
 walk-sound-requires c κs = search needs
@@ -67,13 +67,12 @@ returns : tie.Need-returns
 returns c = by-rule _ _ (c .enum-told .given .1)
 
 returns-2 : tie.Need-returns-2
-returns-2 c = by-rule _ _ (c .enum-told2 .given .1)
+returns-2 c = c .store-sound .ensures ∙ by-rule _ _ (c .before .before .rule .given .1)
 
 returns-3 : tie.Need-returns-3
-returns-3 c = c .store-sound .ensures ∙ by-rule _ _ (c .before .before .rule .given .1)
-
-returns-4 : tie.Need-returns-4
-returns-4 c = c .walk-sound .ensures ∙ by-rule _ _ (c .before .enum-told3 .given .1)
+returns-3 c =
+    let a = c .before .before .before .before .before .before .before .args in
+    ap (λ (t : Bool). t && lastBlank (now (a .b)) (a .n)) (c .walk-sound .ensures) ∙ by-rule _ _ (c .before .enum-told2 .given .1)
 
 pub obeys-spec : {M : Type 1} → statement M
 obeys-spec =
@@ -91,12 +90,10 @@ obeys-spec =
     mul-last
     shared-slice-read-last
     enum-told
-    enum-told-2
     enum-known-rule
     store-sound-requires
-    enum-told-3
+    enum-told-2
     walk-sound-requires
     returns
     returns-2
-    returns-3
-    returns-4)
+    returns-3)
