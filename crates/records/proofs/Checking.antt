@@ -8,12 +8,13 @@ use native.Mathlib.Omega.{arith}
 use native.Mathlib.Decide.{ℕ-discrete}
 use lib.ListN.{length, getD, set, length-set}
 use lib.Seq.{getD-set-same, getD-set-other}
-use borrow.Author.Tests.{ltb-true, lt-ltb, le-ltb, eq-eqb, ne-eqb}
+use lib.Dec.{leb}
+use borrow.Author.Tests.{ltb-true, lt-ltb, le-ltb, le-leb, lt-leb, eq-eqb, ne-eqb}
 use Rattle.layout.specs.Layout.{recordAt}
 use Rattle.word.specs.Word.{flag}
 use Rattle.records.specs.Records.{chain, chainAt, count, each, all, small}
 use Rattle.records.specs.declared.check.Rule.{Rule}
-use Rattle.records.specs.Rules.{obeys, fits}
+use Rattle.records.specs.Rules.{obeys, fits, chainFits}
 use Rattle.records.specs.Tallied.{Tallied}
 use Rattle.records.proofs.Counts.{either, and-left, and-both}
 use Rattle.records.proofs.Three.{count-cons}
@@ -70,9 +71,6 @@ module _ (q : ℕ → Bool) (b : List ℕ) (h : ℕ) where
     pub check-zero : n ≡ 0 → true ≡ all q (chainAt b h)
     check-zero e = sym (all-nil q (chain k b n) (chain-zero k b n e)) ∙ C .left
 
-    pub check-out : k ≤ 0 → true ≡ all q (chainAt b h)
-    check-out e = sym (all-nil q (chain k b n) (chain-none k b n (omega arith))) ∙ C .left
-
 -- where every member is below 32, so is the next
 pub check-low : (b : List ℕ) (h n k : ℕ) → all small (chainAt b h) ≡ true → Checking small b h n k → 0 < k → n ≢ 0 → n < 32
 check-low b h n k e C p d = ltb-true n 32 (and-left (small n) (all small (chain (k - 1) b (getD b (recordAt n) 0))) (check-at small b h n k C p d ∙ e))
@@ -80,51 +78,94 @@ check-low b h n k e C p d = ltb-true n 32 (and-left (small n) (all small (chain 
 pub check-low-next : (b : List ℕ) (h n k : ℕ) → all small (chainAt b h) ≡ true → Checking small b h n k → 0 < k → n ≢ 0 → Checking small b h (getD b (recordAt n) 0) (k - 1)
 check-low-next b h n k e C p d = check-next small b h n k C p d (lt-ltb n 32 (check-low b h n k e C p d))
 
--- a count of the members, where each must fit
-pub record Tallying (b : List ℕ) (h : ℕ) (rule : Rule) (s t : List ℕ) (n k : ℕ) : Type 0 where
-  pub check : Checking (fits rule b) b h n k
+and-false : (p q : Bool) → false ≡ q → false ≡ p && q
+and-false true q e = e
+and-false false q e = refl
+
+-- a count of the members, which must be few and fit: k more may come, with `fuel` of the chain's fuel left
+pub record Tallying (b : List ℕ) (h : ℕ) (rule : Rule) (most : ℕ) (s t : List ℕ) (n k : ℕ) : Type 0 where
+  pub fuel : ℕ
+  pub few : most < 32
+  pub spare : k + 32 ≡ fuel + most
+  pub check : Checking (fits rule b) b h n fuel
+  pub size : length (chain fuel b n) + most ≡ length (chainAt b h) + k
   pub long : length t ≡ 32
-  pub counts : (m : ℕ) → m < 32 → getD t m 0 + count m (chain k b n) ≡ getD s m 0 + count m (chainAt b h)
+  pub counts : (m : ℕ) → m < 32 → getD t m 0 + count m (chain fuel b n) ≡ getD s m 0 + count m (chainAt b h)
   pub bound : (m : ℕ) → getD t m 0 + k ≤ 96
 
-module _ (b : List ℕ) (h : ℕ) (rule : Rule) (s : List ℕ) where
-  pub tally-start : length s ≡ 32 → ((m : ℕ) → getD s m 0 ≤ 64) → Tallying b h rule s s (getD b h 0) 32
-  tally-start l f = record { check = check-start (fits rule b) b h; long = l; counts = λ m p. refl; bound = λ m. omega (arith, f m) }
+module _ (b : List ℕ) (h : ℕ) (rule : Rule) (most : ℕ) (s : List ℕ) where
+  pub tally-start : most < 32 → length s ≡ 32 → ((m : ℕ) → getD s m 0 ≤ 64) → Tallying b h rule most s s (getD b h 0) most
+  tally-start w l f =
+      record {
+        fuel = 32;
+        few = w;
+        spare = omega arith;
+        check = check-start (fits rule b) b h;
+        size = refl;
+        long = l;
+        counts = λ m p. refl;
+        bound = λ m. omega (arith, f m);
+      }
 
-  module _ (t : List ℕ) (n k : ℕ) (C : Tallying b h rule s t n k) where
-    pub tally-next : 0 < k → n ≢ 0 → n < 32 → obeys rule b n ≡ true → Tallying b h rule s (set t n (getD t n 0 + 1)) (getD b (recordAt n) 0) (k - 1)
-    tally-next p d l o =
+  module _ (t : List ℕ) (n k : ℕ) (C : Tallying b h rule most s t n k) where
+    some : 0 < C .fuel
+    some = omega (arith, C .few, C .spare)
+
+    pub tally-next : n ≢ 0 → k ≢ 0 → n < 32 → obeys rule b n ≡ true → Tallying b h rule most s (set t n (getD t n 0 + 1)) (getD b (recordAt n) 0) (k - 1)
+    tally-next d q l o =
         record {
-          check = check-next (fits rule b) b h n k (C .check) p d (and-both (small n) (obeys rule b n) (lt-ltb n 32 l) o);
+          fuel = C .fuel - 1;
+          few = C .few;
+          spare = omega (arith, C .spare, some);
+          check = check-next (fits rule b) b h n (C .fuel) (C .check) some d (and-both (small n) (obeys rule b n) (lt-ltb n 32 l) o);
+          size = omega (arith, C .size, ap (λ (r : List ℕ). length r) step);
           long = length-set t n (getD t n 0 + 1) ∙ C .long;
           counts = λ m q. either (ℕ-discrete m n)
-              (λ e. omega (arith, C .counts m q, ap (count m) (chain-step k b n p d), count-cons m n (chain (k - 1) b (getD b (recordAt n) 0)), ap flag (eq-eqb m n e), same m e))
-              (λ e. omega (arith, C .counts m q, ap (count m) (chain-step k b n p d), count-cons m n (chain (k - 1) b (getD b (recordAt n) 0)), ap flag (ne-eqb m n e), getD-set-other t n m (getD t n 0 + 1) 0 e));
+              (λ e. omega (arith, C .counts m q, ap (count m) step, count-cons m n rest, ap flag (eq-eqb m n e), same m e))
+              (λ e. omega (arith, C .counts m q, ap (count m) step, count-cons m n rest, ap flag (ne-eqb m n e), getD-set-other t n m (getD t n 0 + 1) 0 e));
           bound = λ m. either (ℕ-discrete m n)
               (λ e. omega (arith, C .bound m, same m e))
               (λ e. omega (arith, C .bound m, getD-set-other t n m (getD t n 0 + 1) 0 e));
         }
       where
+        rest : List ℕ
+        rest = chain (C .fuel - 1) b (getD b (recordAt n) 0)
+
+        step : chain (C .fuel) b n ≡ n ∷ rest
+        step = chain-step (C .fuel) b n some d
+
         same : (m : ℕ) → m ≡ n → getD (set t n (getD t n 0 + 1)) m 0 ≡ getD t m 0 + 1
         same m e = rw e (getD-set-same t n (getD t n 0 + 1) 0 (omega (arith, C .long)))
 
-    tally-done : chain k b n ≡ [] → (m : ℕ) → m < 32 → getD t m 0 ≡ getD s m 0 + count m (chainAt b h)
-    tally-done e m q = omega (arith, C .counts m q, count-nil m (chain k b n) e)
+    pub tally-end : n ≡ 0 → Tallied b h rule most s t true
+    tally-end e =
+        record {
+          long = C .long;
+          result =
+              check-zero (fits rule b) b h n (C .fuel) (C .check) e
+              ∙ ap (λ (r : Bool). r && all (fits rule b) (chainAt b h)) (sym (le-leb (length (chainAt b h)) most (omega (arith, C .size, ap (λ (r : List ℕ). length r) none))));
+          counts = λ _ m q. omega (arith, C .counts m q, count-nil m (chain (C .fuel) b n) none);
+        }
+      where
+        none : chain (C .fuel) b n ≡ []
+        none = chain-zero (C .fuel) b n e
 
-    pub tally-zero : n ≡ 0 → Tallied b h rule s t true
-    tally-zero e = record { long = C .long; result = check-zero (fits rule b) b h n k (C .check) e; counts = λ _. tally-done (chain-zero k b n e) }
+    fail : false ≡ chainFits rule most b h → Tallied b h rule most s t false
+    fail e = record { long = C .long; result = e; counts = λ f. absurd (false≢true f) }
 
-    pub tally-out : k ≤ 0 → Tallied b h rule s t true
-    tally-out e = record { long = C .long; result = check-out (fits rule b) b h n k (C .check) e; counts = λ _. tally-done (chain-none k b n (omega arith)) }
+    pub tally-many : n ≢ 0 → k ≡ 0 → Tallied b h rule most s t false
+    tally-many d e =
+        fail (ap (λ (r : Bool). r && all (fits rule b) (chainAt b h))
+        (sym (lt-leb (length (chainAt b h)) most (omega (arith, C .size, ap (λ (r : List ℕ). length r) (chain-step (C .fuel) b n some d))))))
 
-    tally-fail : 0 < k → n ≢ 0 → fits rule b n ≡ false → Tallied b h rule s t false
-    tally-fail p d e = record { long = C .long; result = check-fail (fits rule b) b h n k (C .check) p d e; counts = λ e. absurd (false≢true e) }
+    unfit : n ≢ 0 → fits rule b n ≡ false → Tallied b h rule most s t false
+    unfit d e = fail (and-false (leb (length (chainAt b h)) most) _ (check-fail (fits rule b) b h n (C .fuel) (C .check) some d e))
 
-    pub tally-big : 0 < k → n ≢ 0 → 32 ≤ n → Tallied b h rule s t false
-    tally-big p d l = tally-fail p d (rw (le-ltb n 32 l))
+    pub tally-big : n ≢ 0 → 32 ≤ n → Tallied b h rule most s t false
+    tally-big d l = unfit d (rw (le-ltb n 32 l))
 
-    pub tally-bad : 0 < k → n ≢ 0 → n < 32 → obeys rule b n ≡ false → Tallied b h rule s t false
-    tally-bad p d l o = tally-fail p d (rw (lt-ltb n 32 l, o))
+    pub tally-bad : n ≢ 0 → n < 32 → obeys rule b n ≡ false → Tallied b h rule most s t false
+    tally-bad d l o = unfit d (rw (lt-ltb n 32 l, o))
 
 -- the length of a chain
 pub record Measuring (b : List ℕ) (h n k l : ℕ) : Type 0 where

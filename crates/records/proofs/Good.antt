@@ -97,7 +97,7 @@ module _ (b : List ℕ) (e : linked b ≡ true) where
       go zero (suc y) f g h q = g (omega arith)
       go (suc x) y f g h q = f (omega arith)
 
-  all-of : length (chainAt b storeHead) + (length (chainAt b walkHead) + length (chainAt b freeHead)) ≡ 31
+  pub all-of : length (chainAt b storeHead) + (length (chainAt b walkHead) + length (chainAt b freeHead)) ≡ 31
   all-of = all-31 (chainAt b storeHead) (chainAt b walkHead) (chainAt b freeHead) once-of below-of
 
   pub linked-good : length b ≡ 256 → Good b (chainAt b storeHead) (chainAt b walkHead) (chainAt b freeHead)

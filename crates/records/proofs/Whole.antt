@@ -9,10 +9,10 @@ use lib.ListN.{length, getD, replicate, getD-replicate, List·getD-eq-default}
 use lib.Dec.{eqb}
 use Rattle.layout.specs.Layout.{recordAt, storeHead, walkHead, freeHead}
 use Rattle.word.specs.Word.{flag}
-use Rattle.records.specs.Records.{chain, chainAt, count, each, all, numbers, onceEach}
+use Rattle.records.specs.Records.{chain, chainAt, count, each, numbers, onceEach}
 use Rattle.records.specs.declared.check.Rule.{Rule}
 use Rattle.records.specs.declared.check.Rule.the-variants.{Blank, Store, Walk}
-use Rattle.records.specs.Rules.{fits, ruled}
+use Rattle.records.specs.Rules.{chainFits, ruled}
 use Rattle.records.specs.Tallied.{Tallied}
 use Rattle.records.proofs.Counts.{either, and-left, and-right, and-both}
 use Rattle.records.proofs.Good.{three-append}
@@ -28,15 +28,15 @@ and-true p q e = rw e
 module _ (n : ℕ) (b : List ℕ) where
   -- the three chains that are ruled
   pub ruled-of : ruled n b ≡ true
-      → (all (fits (Store n) b) (chainAt b storeHead) ≡ true) × (all (fits Walk b) (chainAt b walkHead) ≡ true) × (all (fits Blank b) (chainAt b freeHead) ≡ true)
+      → (chainFits (Store n) 8 b storeHead ≡ true) × (chainFits Walk 23 b walkHead ≡ true) × (chainFits Blank 31 b freeHead ≡ true)
   unfolding ruled
   ruled-of e =
-      let f = and-right (all (fits (Store n) b) (chainAt b storeHead)) _ e in
-      (and-left (all (fits (Store n) b) (chainAt b storeHead)) _ e, and-left (all (fits Walk b) (chainAt b walkHead)) _ f, and-right (all (fits Walk b) (chainAt b walkHead)) _ f)
+      let f = and-right (chainFits (Store n) 8 b storeHead) _ e in
+      (and-left (chainFits (Store n) 8 b storeHead) _ e, and-left (chainFits Walk 23 b walkHead) _ f, and-right (chainFits Walk 23 b walkHead) _ f)
 
-  pub ruled-all : all (fits (Store n) b) (chainAt b storeHead) ≡ true → all (fits Walk b) (chainAt b walkHead) ≡ true → all (fits Blank b) (chainAt b freeHead) ≡ true → ruled n b ≡ true
+  pub ruled-all : chainFits (Store n) 8 b storeHead ≡ true → chainFits Walk 23 b walkHead ≡ true → chainFits Blank 31 b freeHead ≡ true → ruled n b ≡ true
   unfolding ruled
-  ruled-all e f g = and-both (all (fits (Store n) b) (chainAt b storeHead)) _ e (and-both (all (fits Walk b) (chainAt b walkHead)) _ f g)
+  ruled-all e f g = and-both (chainFits (Store n) 8 b storeHead) _ e (and-both (chainFits Walk 23 b walkHead) _ f g)
 
 -- the counts of three tallies
 chain-length : (k : ℕ) (b : List ℕ) (n : ℕ) → length (chain k b n) ≤ k
@@ -54,8 +54,8 @@ count-length n (x ∷ l) = omega (arith, count-length n l, bit-le (eqb n x))
     bit-le true = omega arith
     bit-le false = omega arith
 
-pub tallied-bound : (b : List ℕ) (h : ℕ) (rule : Rule) (s t : List ℕ) (r : Bool) (j : ℕ) → Tallied b h rule s t r → r ≡ true → ((m : ℕ) → getD s m 0 ≤ j) → (m : ℕ) → getD t m 0 ≤ j + 32
-tallied-bound b h rule s t r j T e f m =
+pub tallied-bound : (b : List ℕ) (h : ℕ) (rule : Rule) (most : ℕ) (s t : List ℕ) (r : Bool) (j : ℕ) → Tallied b h rule most s t r → r ≡ true → ((m : ℕ) → getD s m 0 ≤ j) → (m : ℕ) → getD t m 0 ≤ j + 32
+tallied-bound b h rule most s t r j T e f m =
     either (decLt m 32)
     (λ p. omega (arith, T .counts e m p, f m, count-length m (chainAt b h), chain-length 32 b (getD b h 0)))
     (λ p. omega (arith, List·getD-eq-default t 0 {n = m} (omega (arith, T .long, p))))
@@ -71,7 +71,7 @@ unfolding each
 each-ext p q zero f = refl
 each-ext p q (suc k) f = λ i. f (suc k) (omega arith) (omega arith) i && each-ext p q k (λ n h l. f n h (omega arith)) i
 
-pub tallied-once : (k : ℕ) (b s t u v : List ℕ) (x y z : Bool) → ((m : ℕ) → getD s m 0 ≡ 0) → Tallied b storeHead (Store k) s t x → Tallied b walkHead Walk t u y → Tallied b freeHead Blank u v z
+pub tallied-once : (k : ℕ) (b s t u v : List ℕ) (x y z : Bool) → ((m : ℕ) → getD s m 0 ≡ 0) → Tallied b storeHead (Store k) 8 s t x → Tallied b walkHead Walk 23 t u y → Tallied b freeHead Blank 31 u v z
     → x ≡ true → y ≡ true → z ≡ true → each 31 (λ n. eqb (getD v n 0) 1) ≡ ruled k b && onceEach b
 tallied-once k b s t u v x y z f S T U e₁ e₂ e₃ =
     each-ext (λ n. eqb (getD v n 0) 1) (λ n. eqb (count n (numbers b)) 1) 31
@@ -83,11 +83,11 @@ tallied-once k b s t u v x y z f S T U e₁ e₂ e₃ =
 
 -- a tally that fails
 module _ (n : ℕ) (b : List ℕ) (r : Bool) (f : r ≡ false) where
-  pub once-fails-stores : r ≡ all (fits (Store n) b) (chainAt b storeHead) → false ≡ ruled n b && onceEach b
-  once-fails-stores e = fails (all (fits (Store n) b) (chainAt b storeHead)) (ruled n b && onceEach b) (λ h. ruled-of n b (and-left (ruled n b) (onceEach b) h) .0) (sym e ∙ f)
+  pub once-fails-stores : r ≡ chainFits (Store n) 8 b storeHead → false ≡ ruled n b && onceEach b
+  once-fails-stores e = fails (chainFits (Store n) 8 b storeHead) (ruled n b && onceEach b) (λ h. ruled-of n b (and-left (ruled n b) (onceEach b) h) .0) (sym e ∙ f)
 
-  pub once-fails-walks : r ≡ all (fits Walk b) (chainAt b walkHead) → false ≡ ruled n b && onceEach b
-  once-fails-walks e = fails (all (fits Walk b) (chainAt b walkHead)) (ruled n b && onceEach b) (λ h. ruled-of n b (and-left (ruled n b) (onceEach b) h) .1) (sym e ∙ f)
+  pub once-fails-walks : r ≡ chainFits Walk 23 b walkHead → false ≡ ruled n b && onceEach b
+  once-fails-walks e = fails (chainFits Walk 23 b walkHead) (ruled n b && onceEach b) (λ h. ruled-of n b (and-left (ruled n b) (onceEach b) h) .1) (sym e ∙ f)
 
-  pub once-fails-free : r ≡ all (fits Blank b) (chainAt b freeHead) → false ≡ ruled n b && onceEach b
-  once-fails-free e = fails (all (fits Blank b) (chainAt b freeHead)) (ruled n b && onceEach b) (λ h. ruled-of n b (and-left (ruled n b) (onceEach b) h) .2) (sym e ∙ f)
+  pub once-fails-free : r ≡ chainFits Blank 31 b freeHead → false ≡ ruled n b && onceEach b
+  once-fails-free e = fails (chainFits Blank 31 b freeHead) (ruled n b && onceEach b) (λ h. ruled-of n b (and-left (ruled n b) (onceEach b) h) .2) (sym e ∙ f)

@@ -1,11 +1,14 @@
--- The rules that the check asks of each record of a chain: those of Records and Contents.
+-- What the check asks of each chain and of each record on it: rules of Records and Contents.
 -- Assumes nothing.
 use Prim.Native.Nat.{ℕ}
 use mathlib.Core.Bool.{Bool, _&&_}
 use mathlib.Core.List.{List}
+use lib.ListN.{length}
+use lib.Dec.{leb}
+use Rattle.layout.specs.Layout.{storeHead, walkHead, freeHead}
 use Rattle.records.specs.declared.check.Rule.{Rule}
 use Rattle.records.specs.declared.check.Rule.the-variants.{Blank, Store, Walk}
-use Rattle.records.specs.Records.{all, small, blank, lastBlank, storeIn, walkIn, storeNumbers, walkNumbers, freeNumbers}
+use Rattle.records.specs.Records.{chainAt, all, small, blank, lastBlank, storeIn, walkIn}
 use Rattle.records.specs.Contents.{storeSound, walkSound}
 
 abbrev pub obeys : Rule → List ℕ → ℕ → Bool
@@ -17,6 +20,10 @@ obeys Walk b n = walkSound (walkIn b n) && lastBlank b n
 abbrev pub fits : Rule → List ℕ → ℕ → Bool
 fits rule b n = small n && obeys rule b n
 
--- and so on each chain, by its rule
+-- a chain has at most `most` records, and each fits
+abbrev pub chainFits : Rule → ℕ → List ℕ → ℕ → Bool
+chainFits rule most b h = leb (length (chainAt b h)) most && all (fits rule b) (chainAt b h)
+
+-- the three chains: at most 8 stores, 23 walks, and all of the 31 records free
 unfoldable pub ruled : ℕ → List ℕ → Bool
-ruled bytes b = all (fits (Store bytes) b) (storeNumbers b) && (all (fits Walk b) (walkNumbers b) && all (fits Blank b) (freeNumbers b))
+ruled bytes b = chainFits (Store bytes) 8 b storeHead && (chainFits Walk 23 b walkHead && chainFits Blank 31 b freeHead)

@@ -21,19 +21,20 @@ ghost use Rattle.records.specs.Contents as y;
 ghost use Rattle.records.specs.Rules as z;
 ghost use Rattle.records.specs.Tallied.{Tallied};
 
-// Counts the records of a chain, at most 32 of them; each must be below 32 and obey the chain's rule.
-fn tally(b: &[u32], head: usize, rule: Rule, seen: &mut [u8; 32]) -> bool
+// Counts the records of a chain. False if there are more than `most`, or one is 32 or more or breaks the rule.
+fn tally(b: &[u32], head: usize, rule: Rule, most: usize, seen: &mut [u8; 32]) -> bool
     requires { ⌜ length (now b) ≡ 256 ⌝ }
     requires { ⌜ head < 256 ⌝ }
+    requires { ⌜ most < 32 ⌝ }
     requires { ⌜ length (now seen) ≡ 32 ⌝ }
     requires { ⌜ ((m : ℕ) → getD (now seen) m 0 ≤ 64) ⌝ }
-    ensures { λ r. ⌜ Tallied (now (b .entry)) head rule (now (seen .entry)) (now (seen .exit)) r ⌝ }
+    ensures { λ r. ⌜ Tallied (now (b .entry)) head rule most (now (seen .entry)) (now (seen .exit)) r ⌝ }
 {
     let mut n = b[head];
-    let mut k: usize = 32;
-    while 0 < k {
-        if n == 0 {
-            return true;
+    let mut k = most;
+    while n != 0 {
+        if k == 0 {
+            return false;
         }
         if 32 <= n {
             return false;
@@ -63,19 +64,19 @@ fn each_once(seen: &[u8; 32]) -> bool
     true
 }
 
-// Whether each of records 1 to 31 is on the chains once, no other is, and each obeys its chain's rule.
+// Whether each of records 1 to 31 is on the chains once, no other is, and each chain keeps its length and its rule.
 fn records_once(b: &[u32], bytes: usize) -> bool
     requires { ⌜ length (now b) ≡ 256 ⌝ }
     ensures { λ r. ⌜ r ≡ z.ruled bytes (now (b .entry)) && x.onceEach (now (b .entry)) ⌝ }
 {
     let mut seen = [0u8; 32];
-    if !tally(b, STORE_HEAD, Rule::Store(bytes), &mut seen) {
+    if !tally(b, STORE_HEAD, Rule::Store(bytes), 8, &mut seen) {
         return false;
     }
-    if !tally(b, WALK_HEAD, Rule::Walk, &mut seen) {
+    if !tally(b, WALK_HEAD, Rule::Walk, 23, &mut seen) {
         return false;
     }
-    if !tally(b, FREE_HEAD, Rule::Blank, &mut seen) {
+    if !tally(b, FREE_HEAD, Rule::Blank, 31, &mut seen) {
         return false;
     }
     each_once(&seen)
@@ -238,12 +239,6 @@ pub fn sound_records(b: &[u32], bytes: usize) -> bool
     ensures { λ r. ⌜ r ≡ y.soundRecords bytes (now (b .entry)) ⌝ }
 {
     if !records_once(b, bytes) {
-        return false;
-    }
-    if 8 < chain_length(b, STORE_HEAD) {
-        return false;
-    }
-    if 23 < chain_length(b, WALK_HEAD) {
         return false;
     }
     if !first_blank(b) {

@@ -8,19 +8,19 @@ use Rattle.records.proofs.check.records_once.Statement.{statement}
 use Rattle.records.proofs.check.records_once.Tie as tie
 
 tally-requires : tie.Need-tally-requires
-tally-requires c κs = (c .before .before .pre, (omega arith, (refl, λ m. omega (arith, none-seen m))))
+tally-requires c κs = (c .before .before .pre, (omega arith, (omega arith, (refl, λ m. omega (arith, none-seen m)))))
 
 returns : tie.Need-returns
 returns c = once-fails-stores _ _ _ (not-true _ (c .if1 .taken)) (c .before .tally .ensures .result)
 
 tally-requires-2 : tie.Need-tally-requires-2
-tally-requires-2 c κs = (c .before .before .before .before .before .pre, (omega arith, (c .before .before .tally .ensures .long, λ m. omega (arith, tallied-bound _ _ _ _ _ _ 0 (c .before .before .tally .ensures) (not-false _ (c .before .if1 .left)) (λ k. omega (arith, none-seen k)) m))))
+tally-requires-2 c κs = (c .before .before .before .before .before .pre, (omega arith, (omega arith, (c .before .before .tally .ensures .long, λ m. omega (arith, tallied-bound _ _ _ _ _ _ _ 0 (c .before .before .tally .ensures) (not-false _ (c .before .if1 .left)) (λ k. omega (arith, none-seen k)) m)))))
 
 returns-2 : tie.Need-returns-2
 returns-2 c = once-fails-walks _ _ _ (not-true _ (c .if2 .taken)) (c .before .tally2 .ensures .result)
 
 tally-requires-3 : tie.Need-tally-requires-3
-tally-requires-3 c κs = (c .before .before .before .before .before .before .before .before .pre, (omega arith, (c .before .before .tally2 .ensures .long, λ m. omega (arith, tallied-bound _ _ _ _ _ _ 32 (c .before .before .tally2 .ensures) (not-false _ (c .before .if2 .left)) (tallied-bound _ _ _ _ _ _ 0 (c .before .before .before .before .before .tally .ensures) (not-false _ (c .before .before .before .before .if1 .left)) (λ k. omega (arith, none-seen k))) m))))
+tally-requires-3 c κs = (c .before .before .before .before .before .before .before .before .pre, (omega arith, (omega arith, (c .before .before .tally2 .ensures .long, λ m. omega (arith, tallied-bound _ _ _ _ _ _ _ 32 (c .before .before .tally2 .ensures) (not-false _ (c .before .if2 .left)) (tallied-bound _ _ _ _ _ _ _ 0 (c .before .before .before .before .before .tally .ensures) (not-false _ (c .before .before .before .before .if1 .left)) (λ k. omega (arith, none-seen k))) m)))))
 
 returns-3 : tie.Need-returns-3
 returns-3 c = once-fails-free _ _ _ (not-true _ (c .if3 .taken)) (c .before .tally3 .ensures .result)
