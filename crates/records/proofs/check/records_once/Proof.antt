@@ -11,7 +11,7 @@ tally-requires : tie.Need-tally-requires
 tally-requires c κs = (c .before .before .pre, (omega arith, (omega arith, (refl, λ m. omega (arith, none-seen m)))))
 
 returns : tie.Need-returns
-returns c = once-fails-stores _ _ _ (not-true _ (c .if1 .taken)) (c .before .tally .ensures .result)
+returns c = once-fails-stores (c .before .before .before .before .args .bytes) _ _ (not-true _ (c .if1 .taken)) (c .before .tally .ensures .result)
 
 tally-requires-2 : tie.Need-tally-requires-2
 tally-requires-2 c κs = (c .before .before .before .before .before .pre, (omega arith, (omega arith, (c .before .before .tally .ensures .long, λ m. omega (arith, tallied-bound _ _ _ _ _ _ _ 0 (c .before .before .tally .ensures) (not-false _ (c .before .if1 .left)) (λ k. omega (arith, none-seen k)) m)))))
