@@ -25,7 +25,8 @@ use Rattle.isa.specs.Core.{d, mal, ea, sprAt}
 use Rattle.isa.specs.Interrupts.{mca, jisr, il, lowest, continues, causesOf, eventsAs}
 use Rattle.records.specs.declared.Walk.{Walk}
 use Rattle.store_buffer.specs.System.{sized, aligned}
-use Rattle.cores.specs.Core.{isAccess, suppressed}
+use Rattle.isa.proofs.Words.{causes-lt}
+use Rattle.cores.specs.Core.{View, isAccess, isEvent, causes, suppressed}
 
 -- ---- a misaligned access is interrupted, and not by a continue type
 
@@ -147,3 +148,12 @@ load-wide i e = wide (d i) (load-sized i e)
 pub word-aligned : (a : ℕ) → a % 4 ≡ 0 → aligned a 4 ≡ true
 unfolding aligned
 word-aligned a e = eq-eqb (a % 4) 0 e
+
+-- ---- a page fault
+
+-- it is one cause more
+pub with-fault : (v : View) (i : Instruction) (w : ℕ) → causes v i w false + 32 ≡ causes v i w true
+with-fault v i w = omega arith
+
+pub with-fault-lt : (v : View) (i : Instruction) (w ca : ℕ) → ca ≡ causes v i w false → ca + 32 < 2 ^ 32
+with-fault-lt v i w ca e = rw (e, with-fault v i w) (causes-lt (eventsAs i (v .core) w (isEvent (v .eev)) true) (sprAt (v .core) sr))

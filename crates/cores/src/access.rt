@@ -20,7 +20,7 @@ use store_buffer::Read;
 use tlb::Request;
 use tlb::Verdict;
 ghost use mathlib.Core.Path.{_≡_};
-ghost use mathlib.Core.Bool.{true, not, _||_};
+ghost use mathlib.Core.Bool.{true, false, not, _||_};
 ghost use Prim.Native.Nat.{_%_, _*_, _^_};
 ghost use lib.ListN.{length};
 ghost use lib.Dec.{ltb};
@@ -233,18 +233,27 @@ fn has_hazard(b: &[u32], i: Instruction, a: u32) -> bool
 }
 
 // A load, store or cas that does not fault, at its physical address.
-fn at_address(b: &[u32], select: u32, window: u32, m: &[u8], i: Instruction, w: u32, a: u32) -> Plan
+fn at_address(
+    b: &[u32],
+    select: u32,
+    window: u32,
+    m: &[u8],
+    i: Instruction,
+    w: u32,
+    a: u32,
+    ca: u32,
+) -> Plan
     requires { ⌜ length (now b) ≡ 256 ⌝ }
     requires { ⌜ soundRecords (length (now m)) (now b) ≡ true ⌝ }
     requires { ⌜ length (now m) % 4 ≡ 0 ⌝ }
     requires { ⌜ x.isAccess i ≡ true ⌝ }
     requires { ⌜ a % 4 ≡ ea i (registersOf (now b)) w % 4 ⌝ }
+    requires { ⌜ ca ≡ x.causes (x.viewOf (now b) select window) i w false ⌝ }
     ensures { λ r. ⌜ r ≡ settle p.refused (x.onAddress (x.viewOf (now (b .entry)) select window) (now (m .entry)) i w a) ⌝ }
 {
     if avoids_ports(i) & store_buffer::is_port(a) {
         return refused(6);
     }
-    let ca = causes::of(b, i, w, false);
     if causes::suppress(ca) {
         if has_hazard(b, i, a) {
             return refused(6);
@@ -255,12 +264,22 @@ fn at_address(b: &[u32], select: u32, window: u32, m: &[u8], i: Instruction, w: 
 }
 
 // A load, store or cas that does not fault, by the walk that was used.
-fn passed(b: &[u32], select: u32, window: u32, m: &[u8], walk: Walk, i: Instruction, w: u32) -> Plan
+fn passed(
+    b: &[u32],
+    select: u32,
+    window: u32,
+    m: &[u8],
+    walk: Walk,
+    i: Instruction,
+    w: u32,
+    ca: u32,
+) -> Plan
     requires { ⌜ length (now b) ≡ 256 ⌝ }
     requires { ⌜ soundRecords (length (now m)) (now b) ≡ true ⌝ }
     requires { ⌜ length (now m) % 4 ≡ 0 ⌝ }
     requires { ⌜ x.isAccess i ≡ true ⌝ }
     requires { ⌜ (not (user (registersOf (now b))) || ltb (walk .second) (2 ^ 20)) ≡ true ⌝ }
+    requires { ⌜ ca ≡ x.causes (x.viewOf (now b) select window) i w false ⌝ }
     ensures { λ r. ⌜ r ≡ settle p.refused (x.onData (x.viewOf (now (b .entry)) select window) (now (m .entry)) walk i w verdict.Passes) ⌝ }
 {
     let user = block::user(b);
@@ -268,7 +287,7 @@ fn passed(b: &[u32], select: u32, window: u32, m: &[u8], walk: Walk, i: Instruct
         return refused(6);
     }
     let a = translation::physical(user, walk, causes::address(b, i, w));
-    at_address(b, select, window, m, i, w, a)
+    at_address(b, select, window, m, i, w, a, ca)
 }
 
 fn data_request(b: &[u32], i: Instruction, w: u32) -> Request
@@ -291,12 +310,22 @@ fn data_request(b: &[u32], i: Instruction, w: u32) -> Request
     }
 }
 
-// A load, store or cas by the data walk.
-fn access(b: &[u32], select: u32, window: u32, m: &[u8], walk: Walk, i: Instruction, w: u32) -> Plan
+// A load, store or cas by the data walk. A page fault is one cause more.
+fn access(
+    b: &[u32],
+    select: u32,
+    window: u32,
+    m: &[u8],
+    walk: Walk,
+    i: Instruction,
+    w: u32,
+    ca: u32,
+) -> Plan
     requires { ⌜ length (now b) ≡ 256 ⌝ }
     requires { ⌜ soundRecords (length (now m)) (now b) ≡ true ⌝ }
     requires { ⌜ length (now m) % 4 ≡ 0 ⌝ }
     requires { ⌜ x.isAccess i ≡ true ⌝ }
+    requires { ⌜ ca ≡ x.causes (x.viewOf (now b) select window) i w false ⌝ }
     ensures { λ r. ⌜ r ≡ settle p.refused (x.onAccess (x.viewOf (now (b .entry)) select window) (now (m .entry)) walk i w) ⌝ }
 {
     let user = block::user(b);
@@ -306,11 +335,8 @@ fn access(b: &[u32], select: u32, window: u32, m: &[u8], walk: Walk, i: Instruct
     }
     let f = translation::fault(m, user, t, walk);
     match f {
-        Verdict::Passes => passed(b, select, window, m, walk, i, w),
-        Verdict::Faults => {
-            let ca = causes::of(b, i, w, true);
-            finish::stopped(b, w, ca, translation::faulted(b, t.va))
-        }
+        Verdict::Passes => passed(b, select, window, m, walk, i, w, ca),
+        Verdict::Faults => finish::stopped(b, w, ca + 32, translation::faulted(b, t.va)),
         Verdict::Undecided => refused(7),
     }
 }
@@ -332,11 +358,11 @@ fn dropped(b: &[u32], i: Instruction, w: u32) -> WalkChange
 }
 
 // An instruction that accesses no memory.
-fn plain(b: &[u32], select: u32, window: u32, i: Instruction, w: u32) -> Plan
+fn plain(b: &[u32], select: u32, window: u32, i: Instruction, w: u32, masked: u32) -> Plan
     requires { ⌜ length (now b) ≡ 256 ⌝ }
+    requires { ⌜ masked ≡ x.causes (x.viewOf (now b) select window) i w false ⌝ }
     ensures { λ r. ⌜ r ≡ x.withoutAccess (x.viewOf (now (b .entry)) select window) i w ⌝ }
 {
-    let masked = causes::of(b, i, w, false);
     let walks = dropped(b, i, w);
     if causes::suppress(masked) {
         return finish::stopped(b, w, masked, WalkChange::Nothing);
@@ -371,7 +397,7 @@ fn is_access(i: Instruction) -> bool
     classes::is_load(i) | (classes::is_store(i) | classes::is_cas(i))
 }
 
-// An instruction that was fetched.
+// An instruction that was fetched, with its masked causes.
 pub fn instruction(
     b: &[u32],
     select: u32,
@@ -389,8 +415,9 @@ pub fn instruction(
     if !finds_buffer(b, i) {
         return refused(6);
     }
+    let ca = causes::of(b, i, w);
     if is_access(i) {
-        return access(b, select, window, m, walk, i, w);
+        return access(b, select, window, m, walk, i, w, ca);
     }
-    plain(b, select, window, i, w)
+    plain(b, select, window, i, w, ca)
 }

@@ -7,7 +7,7 @@ use decode::fields;
 use isa::interrupts;
 use isa::interrupts::Events;
 ghost use mathlib.Core.Path.{_≡_};
-ghost use mathlib.Core.Bool.{_&&_};
+ghost use mathlib.Core.Bool.{false, _&&_};
 ghost use lib.ListN.{length};
 ghost use Rattle.word.specs.Word.{isSet};
 ghost use Rattle.isa.specs.Core.{ea};
@@ -35,16 +35,16 @@ fn is_heard(b: &[u32], status: u32) -> bool
     false
 }
 
-// Of an instruction.
-pub fn of(b: &[u32], i: Instruction, w: u32, pfls: bool) -> u32
+// Of an instruction without a page fault.
+pub fn of(b: &[u32], i: Instruction, w: u32) -> u32
     requires { ⌜ length (now b) ≡ 256 ⌝ }
-    ensures { λ r. ⌜ r ≡ s.causesOf (registersOf (now (b .entry))) (s.eventsAs i (registersOf (now (b .entry))) w (x.isEvent (event (now (b .entry)))) pfls) ⌝ }
+    ensures { λ r. ⌜ r ≡ s.causesOf (registersOf (now (b .entry))) (s.eventsAs i (registersOf (now (b .entry))) w (x.isEvent (event (now (b .entry)))) false) ⌝ }
 {
     let status = block::status(b);
     let io = is_heard(b, status);
     let p = block::general(b, fields::rs(w));
     let q = block::general(b, fields::rt(w));
-    interrupts::causes_of(i, w, p, q, block::user(b), io, pfls, status)
+    interrupts::causes_of(i, w, p, q, block::user(b), io, false, status)
 }
 
 // Of a core that has no instruction: a misaligned pc, or a page fault on fetch.

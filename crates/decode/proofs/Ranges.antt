@@ -7,7 +7,7 @@ use lib.Dec.{T, eqb, ltb}
 use Rattle.word.proofs.Tests.{same, same-eq}
 use Rattle.decode.specs.declared.Instruction.{Instruction}
 use Rattle.decode.specs.Table.{table}
-use Rattle.decode.specs.Mnemonics.{number, itype, rtype, compi, compr, alu, mulacc, load, store, cas, mfence, flush, invlpg, eret, sysc, movg2s, ill}
+use Rattle.decode.specs.Mnemonics.{number, itype, rtype, compi, compr, alu, mulacc, load, store, cas, mfence, flush, invlpg, eret, sysc, ill}
 use Rattle.decode.proofs.Numbers.{everywhere, every}
 
 -- two predicates that agree on every row agree
@@ -53,10 +53,6 @@ alu-range = agree (λ (i : Instruction). (ltb 7 (number i) && ltb (number i) 16)
 pub mulacc-range : (i : Instruction) → ((ltb 33 (number i) && ltb (number i) 36) || ((ltb 52 (number i) && ltb (number i) 58) && not (eqb (number i) 55))) ≡ mulacc i
 unfolding mulacc
 mulacc-range = agree (λ (i : Instruction). (ltb 33 (number i) && ltb (number i) 36) || ((ltb 52 (number i) && ltb (number i) 58) && not (eqb (number i) 55))) mulacc tt
-
-pub movg2s-number : (i : Instruction) → eqb (number i) 59 ≡ movg2s i
-unfolding movg2s
-movg2s-number = agree (λ (i : Instruction). eqb (number i) 59) movg2s tt
 
 pub sysc-number : (i : Instruction) → eqb (number i) 48 ≡ sysc i
 unfolding sysc

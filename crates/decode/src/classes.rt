@@ -223,9 +223,3 @@ pub fn is_mulacc(i: Instruction) -> bool
     let n = number(i);
     (33 < n) & (n < 36) | (52 < n) & (n < 58) & !(n == 55)
 }
-
-pub fn is_movg2s(i: Instruction) -> bool
-    ensures { λ r. ⌜ r ≡ m.movg2s i ⌝ }
-{
-    number(i) == 59
-}

@@ -12,7 +12,7 @@ use Rattle.decode.specs.declared.System.the-variants.{Cas}
 use Rattle.decode.specs.declared.Instruction.{Instruction}
 use Rattle.decode.specs.declared.Instruction.the-variants.{Illegal}
 use Rattle.decode.specs.Fields.{rs, rt, rd, sa, imm, iindex}
-use Rattle.decode.specs.Mnemonics.{itype, rtype, alu, mulacc, cas, movg2s, ill, sysc}
+use Rattle.decode.specs.Mnemonics.{itype, rtype, alu, mulacc, cas, ill, sysc}
 use Rattle.units.specs.Alu.{alures, ovf, alucon}
 use Rattle.units.specs.Multiplication.{mures, mulcon}
 use Rattle.units.specs.Branch.{bcres, bcon}
@@ -35,12 +35,12 @@ abbrev pub operandsOf : Registers → ℕ → Operands
 operandsOf c w =
     record { p = gprAt c (rs w); q = gprAt c (rt w); special = sprAt c (rd w); pc = c .pc; hi = c .hi; lo = c .lo }
 
--- an outcome is written; only movg2s writes a special register
-abbrev pub withOutcome : Instruction → Registers → ℕ → Outcome → Registers
-withOutcome i c w o =
+-- an outcome is written
+abbrev pub withOutcome : Registers → ℕ → Outcome → Registers
+withOutcome c w o =
     record {
       gpr = putAt (c .gpr) (o .n) (o .v);
-      spr = if movg2s i then set (c .spr) (rd w) (gprAt c (rt w)) else c .spr;
+      spr = if o .special then set (c .spr) (rd w) (gprAt c (rt w)) else c .spr;
       pc = o .pc;
       hi = o .hi;
       lo = o .lo;
@@ -51,7 +51,7 @@ afterBy o = plus 32 (o .pc) 4
 
 -- a general register is written and the pc goes on
 abbrev pub wrote : Operands → ℕ → ℕ → Outcome
-wrote o n v = record { n = n; v = v; pc = afterBy o; hi = o .hi; lo = o .lo }
+wrote o n v = record { n = n; v = v; pc = afterBy o; hi = o .hi; lo = o .lo; special = false }
 
 -- the pc goes on, and nothing else changes
 abbrev pub passed : Operands → Outcome
@@ -59,11 +59,15 @@ passed o = wrote o 0 0
 
 -- a general register is written and the pc goes elsewhere
 abbrev pub went : Operands → ℕ → ℕ → ℕ → Outcome
-went o n v pc = record { n = n; v = v; pc = pc; hi = o .hi; lo = o .lo }
+went o n v pc = record { n = n; v = v; pc = pc; hi = o .hi; lo = o .lo; special = false }
 
 -- HI and LO are written and the pc goes on
 abbrev pub kept : Operands → ℕ → ℕ → Outcome
-kept o hi lo = record { n = 0; v = 0; pc = afterBy o; hi = hi; lo = lo }
+kept o hi lo = record { n = 0; v = 0; pc = afterBy o; hi = hi; lo = lo; special = false }
+
+-- a special register is written and the pc goes on
+abbrev pub setSpecial : Operands → Outcome
+setSpecial o = record { n = 0; v = 0; pc = afterBy o; hi = o .hi; lo = o .lo; special = true }
 
 -- definition 27
 abbrev pub ropBy : Bool → ℕ → ℕ → ℕ
@@ -103,13 +107,13 @@ moveBy Mfhi w o = wrote o (rd w) (o .hi)
 moveBy Mthi w o = kept o (o .p) (o .lo)
 moveBy Mflo w o = wrote o (rd w) (o .lo)
 moveBy Mtlo w o = kept o (o .hi) (o .p)
-moveBy Movg2s w o = passed o
+moveBy Movg2s w o = setSpecial o
 moveBy Movs2g w o = wrote o (rt w) (o .special)
 
 unfoldable pub systemBy : Instruction → ℕ → Operands → ℕ → Outcome
 systemBy i w o R = if cas i then wrote o (rd w) (lv (Instruction.System Cas) R) else passed o
 
--- every instruction; the special register that movg2s writes is not of it
+-- every instruction
 unfoldable pub outcomeBy : Instruction → ℕ → Operands → ℕ → Outcome
 outcomeBy (Instruction.Load x) w o R = wrote o (rt w) (lv (Instruction.Load x) R)
 outcomeBy (Instruction.Store x) w o R = passed o

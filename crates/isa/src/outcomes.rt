@@ -27,13 +27,14 @@ pub struct Operands {
     pub lo: u32,
 }
 
-// The general register to write, 0 for none, and its value; the next pc, HI and LO.
+// The general register to write, 0 for none, and its value; the next pc, HI and LO; and whether special register rd gets general register rt.
 pub struct Outcome {
     pub n: u32,
     pub v: u32,
     pub pc: u32,
     pub hi: u32,
     pub lo: u32,
+    pub special: bool,
 }
 
 fn loaded(l: Load, read: u32) -> u32
@@ -104,6 +105,7 @@ impl Operands {
             pc,
             hi: self.hi,
             lo: self.lo,
+            special: false,
         }
     }
 
@@ -118,6 +120,22 @@ impl Operands {
             pc,
             hi,
             lo,
+            special: false,
+        }
+    }
+
+    // A special register is written, and the pc goes on.
+    fn set_special(self) -> Outcome
+        ensures { λ r. ⌜ r ≡ s.setSpecial self ⌝ }
+    {
+        let pc = self.after();
+        Outcome {
+            n: 0,
+            v: 0,
+            pc,
+            hi: self.hi,
+            lo: self.lo,
+            special: true,
         }
     }
 
@@ -168,7 +186,7 @@ impl Operands {
             Move::Mthi => self.keep(self.p, self.lo),
             Move::Mflo => self.write(d, self.lo),
             Move::Mtlo => self.keep(self.hi, self.p),
-            Move::Movg2s => self.pass(),
+            Move::Movg2s => self.set_special(),
             Move::Movs2g => self.write(n, self.special),
         }
     }
@@ -213,7 +231,7 @@ impl Operands {
         self.pass()
     }
 
-    // What a load or cas has read is passed in. The special register that movg2s writes is not of the outcome.
+    // What a load or cas has read is passed in.
     pub fn outcome(self, i: Instruction, w: u32, read: u32) -> Outcome
         ensures { λ r. ⌜ r ≡ s.outcomeBy i w self read ⌝ }
     {

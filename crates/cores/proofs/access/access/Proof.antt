@@ -7,8 +7,10 @@ use Rattle.cores.proofs.Judging.{access-unfit, access-fit, data-faults,
 use Rattle.cores.proofs.Held.{records-linked, held-base}
 use Rattle.cores.specs.Guards.{settle}
 use Rattle.cores.specs.Plans.{refused}
-use Rattle.cores.specs.Core.{onData}
+use native.Mathlib.Omega.{arith}
+use Rattle.cores.specs.Core.{viewOf, onData}
 use Rattle.tlb.specs.declared.Verdict.the-variants.{Faults, Passes, Undecided}
+use Rattle.cores.proofs.Accesses.{with-fault, with-fault-lt}
 use denote.Ref.{now}
 use Rattle.tlb.specs.Walks.{hit}
 
@@ -34,13 +36,13 @@ enum-told : tie.Need-enum-told
 enum-told c = search needs
 
 passed-requires : tie.Need-passed-requires
-passed-requires c κs = (c .before .before .before .before .before .before .before .before .before .pre .0, (c .before .before .before .before .before .before .before .before .before .pre .1 .0, (c .before .before .before .before .before .before .before .before .before .pre .1 .1 .0, (c .before .before .before .before .before .before .before .before .before .pre .1 .1 .1, rw (← (c .before .before .before .before .before .before .user .ensures)) (held-base _ (now (c .before .before .before .before .before .before .before .before .before .args .b)) (c .before .before .before .before .before .before .before .before .before .args .walk) (c .before .before .before .before .before .before .user .result) (hit (c .before .before .before .before .before .data-request .result) (c .before .before .before .before .before .before .before .before .before .args .walk)) (c .before .before .before .before .before .before .before .before .before .pre .1 .0) (sym (c .before .before .before .before .fits2 .ensures) ∙ not-false _ (c .before .before .before .if1 .left)))))))
+passed-requires c κs = (c .before .before .before .before .before .before .before .before .before .pre .0, (c .before .before .before .before .before .before .before .before .before .pre .1 .0, (c .before .before .before .before .before .before .before .before .before .pre .1 .1 .0, (c .before .before .before .before .before .before .before .before .before .pre .1 .1 .1 .0, (rw (← (c .before .before .before .before .before .before .user .ensures)) (held-base _ (now (c .before .before .before .before .before .before .before .before .before .args .b)) (c .before .before .before .before .before .before .before .before .before .args .walk) (c .before .before .before .before .before .before .user .result) (hit (c .before .before .before .before .before .data-request .result) (c .before .before .before .before .before .before .before .before .before .args .walk)) (c .before .before .before .before .before .before .before .before .before .pre .1 .0) (sym (c .before .before .before .before .fits2 .ensures) ∙ not-false _ (c .before .before .before .if1 .left))), c .before .before .before .before .before .before .before .before .before .pre .1 .1 .1 .1)))))
 
 enum-told-2 : tie.Need-enum-told-2
 enum-told-2 c = search needs
 
-of-requires : tie.Need-of-requires
-of-requires c κs = search needs
+add-stopped : tie.Need-add-stopped
+add-stopped c = let h = with-fault-lt (viewOf (now (c .before .before .before .before .before .before .before .before .before .args .b)) (c .before .before .before .before .before .before .before .before .before .args .select) (c .before .before .before .before .before .before .before .before .before .args .window)) (c .before .before .before .before .before .before .before .before .before .args .i) (c .before .before .before .before .before .before .before .before .before .args .w) (c .before .before .before .before .before .before .before .before .before .args .ca) (c .before .before .before .before .before .before .before .before .before .pre .1 .1 .1 .1) in omega (arith, h)
 
 faulted-requires : tie.Need-faulted-requires
 faulted-requires c κs = search needs
@@ -58,7 +60,7 @@ returns-2 : tie.Need-returns-2
 returns-2 c = c .passed .ensures ∙ access-fit _ _ _ _ _ (c .before .before .before .before .before .fits2 .result) Passes (rw (← (c .before .before .before .before .before .before .before .user .ensures), ← (c .before .before .before .before .before .before .data-request .ensures)) (c .before .before .before .before .before .fits2 .ensures)) (not-false _ (c .before .before .before .before .if1 .left)) (sym (c .before .enum-told .given .1) ∙ (rw (← (c .before .before .before .before .before .before .before .user .ensures), ← (c .before .before .before .before .before .before .data-request .ensures)) (c .before .before .before .fault .ensures)))
 
 returns-3 : tie.Need-returns-3
-returns-3 c = c .stopped .ensures ∙ (rw (c .before .before .of .ensures, c .before .faulted .ensures, c .before .before .before .before .before .before .before .before .data-request .ensures) refl ∙ (data-faults _ _ _ _ _ ∙ access-fit _ _ _ _ _ (c .before .before .before .before .before .before .before .fits2 .result) Faults (rw (← (c .before .before .before .before .before .before .before .before .before .user .ensures), ← (c .before .before .before .before .before .before .before .before .data-request .ensures)) (c .before .before .before .before .before .before .before .fits2 .ensures)) (not-false _ (c .before .before .before .before .before .before .if1 .left)) (sym (c .before .before .before .enum-told2 .given .1) ∙ (rw (← (c .before .before .before .before .before .before .before .before .before .user .ensures), ← (c .before .before .before .before .before .before .before .before .data-request .ensures)) (c .before .before .before .before .before .fault .ensures)))))
+returns-3 c = c .stopped .ensures ∙ (rw (c .before .before .before .before .before .before .before .before .before .before .before .pre .1 .1 .1 .1, c .before .faulted .ensures, c .before .before .before .before .before .before .before .data-request .ensures, with-fault _ _ _) refl ∙ (data-faults _ _ _ _ _ ∙ access-fit _ _ _ _ _ (c .before .before .before .before .before .before .fits2 .result) Faults (rw (← (c .before .before .before .before .before .before .before .before .user .ensures), ← (c .before .before .before .before .before .before .before .data-request .ensures)) (c .before .before .before .before .before .before .fits2 .ensures)) (not-false _ (c .before .before .before .before .before .if1 .left)) (sym (c .before .before .enum-told2 .given .1) ∙ (rw (← (c .before .before .before .before .before .before .before .before .user .ensures), ← (c .before .before .before .before .before .before .before .data-request .ensures)) (c .before .before .before .before .fault .ensures)))))
 
 returns-4 : tie.Need-returns-4
 returns-4 c = c .refused2 .ensures ∙ (data-undecided _ _ _ _ _ ∙ access-fit _ _ _ _ _ (c .before .before .before .before .before .fits2 .result) Undecided (rw (← (c .before .before .before .before .before .before .before .user .ensures), ← (c .before .before .before .before .before .before .data-request .ensures)) (c .before .before .before .before .before .fits2 .ensures)) (not-false _ (c .before .before .before .before .if1 .left)) (sym (c .before .enum-told3 .given .1) ∙ (rw (← (c .before .before .before .before .before .before .before .user .ensures), ← (c .before .before .before .before .before .before .data-request .ensures)) (c .before .before .before .fault .ensures))))
@@ -76,7 +78,7 @@ access-spec =
     enum-told
     passed-requires
     enum-told-2
-    of-requires
+    add-stopped
     faulted-requires
     stopped-requires
     enum-told-3

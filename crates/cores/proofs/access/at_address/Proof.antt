@@ -23,32 +23,29 @@ refused-requires c κs = search needs
 returns : tie.Need-returns
 returns c = c .refused .ensures ∙ address-port _ _ _ _ _ (rw (← (c .before .before .before .avoids-ports .ensures), ← (c .before .before .is-port .ensures)) (c .before .if1 .taken))
 
-of-requires : tie.Need-of-requires
-of-requires c κs = search needs
-
 suppress-requires : tie.Need-suppress-requires
 suppress-requires c κs = search needs
 
 has-hazard-requires : tie.Need-has-hazard-requires
-has-hazard-requires c κs = (c .before .before .before .before .before .before .before .before .pre .0, records-linked _ _ (c .before .before .before .before .before .before .before .before .pre .1 .0))
+has-hazard-requires c κs = (c .before .before .before .before .before .before .before .pre .0, records-linked _ _ (c .before .before .before .before .before .before .before .pre .1 .0))
 
 refused-requires-2 : tie.Need-refused-requires-2
 refused-requires-2 c κs = search needs
 
 returns-2 : tie.Need-returns-2
-returns-2 c = c .refused2 .ensures ∙ address-hazard _ _ _ _ _ (rw (← (c .before .before .before .before .before .before .before .before .avoids-ports .ensures), ← (c .before .before .before .before .before .before .before .is-port .ensures)) (c .before .before .before .before .before .before .if1 .left)) (sym (c .before .before .has-hazard .ensures) ∙ c .before .if3 .taken)
+returns-2 c = c .refused2 .ensures ∙ address-hazard _ _ _ _ _ (rw (← (c .before .before .before .before .before .before .before .avoids-ports .ensures), ← (c .before .before .before .before .before .before .is-port .ensures)) (c .before .before .before .before .before .if1 .left)) (sym (c .before .before .has-hazard .ensures) ∙ c .before .if3 .taken)
 
 stopped-requires : tie.Need-stopped-requires
 stopped-requires c κs = search needs
 
 returns-3 : tie.Need-returns-3
-returns-3 c = c .stopped .ensures ∙ (rw (c .before .before .before .before .before .of .ensures) refl ∙ address-stopped _ _ _ _ _ (rw (← (c .before .before .before .before .before .before .before .before .avoids-ports .ensures), ← (c .before .before .before .before .before .before .before .is-port .ensures)) (c .before .before .before .before .before .before .if1 .left)) (sym (c .before .before .has-hazard .ensures) ∙ c .before .if3 .left) (rw (← (c .before .before .before .before .before .of .ensures)) (sym (c .before .before .before .before .suppress .ensures) ∙ c .before .before .before .if2 .taken)))
+returns-3 c = c .stopped .ensures ∙ (rw (c .before .before .before .before .before .before .before .before .before .before .pre .1 .1 .1 .1 .1) refl ∙ address-stopped _ _ _ _ _ (rw (← (c .before .before .before .before .before .before .before .avoids-ports .ensures), ← (c .before .before .before .before .before .before .is-port .ensures)) (c .before .before .before .before .before .if1 .left)) (sym (c .before .before .has-hazard .ensures) ∙ c .before .if3 .left) (rw (← (c .before .before .before .before .before .before .before .before .before .before .pre .1 .1 .1 .1 .1)) (sym (c .before .before .before .before .suppress .ensures) ∙ c .before .before .before .if2 .taken)))
 
 performed-requires : tie.Need-performed-requires
-performed-requires c κs = (c .before .before .before .before .before .before .before .before .pre .0, (c .before .before .before .before .before .before .before .before .pre .1 .0, (c .before .before .before .before .before .before .before .before .pre .1 .1 .0, (c .before .before .before .before .before .before .before .before .pre .1 .1 .1 .0, access-aligned (c .before .before .before .before .before .before .before .before .args .i) (registersOf (now (c .before .before .before .before .before .before .before .before .args .b))) (c .before .before .before .before .before .before .before .before .args .w) (c .before .before .before .before .before .before .before .before .args .a) (isEvent (event (now (c .before .before .before .before .before .before .before .before .args .b)))) false (c .before .before .before .before .before .before .before .before .pre .1 .1 .1 .0) (rw (← (c .before .before .of .ensures)) (sym (c .before .suppress .ensures) ∙ c .if2 .left)) (c .before .before .before .before .before .before .before .before .pre .1 .1 .1 .1)))))
+performed-requires c κs = (c .before .before .before .before .before .before .before .pre .0, (c .before .before .before .before .before .before .before .pre .1 .0, (c .before .before .before .before .before .before .before .pre .1 .1 .0, (c .before .before .before .before .before .before .before .pre .1 .1 .1 .0, access-aligned (c .before .before .before .before .before .before .before .args .i) (registersOf (now (c .before .before .before .before .before .before .before .args .b))) (c .before .before .before .before .before .before .before .args .w) (c .before .before .before .before .before .before .before .args .a) (isEvent (event (now (c .before .before .before .before .before .before .before .args .b)))) false (c .before .before .before .before .before .before .before .pre .1 .1 .1 .0) (rw (← (c .before .before .before .before .before .before .before .pre .1 .1 .1 .1 .1)) (sym (c .before .suppress .ensures) ∙ c .if2 .left)) (c .before .before .before .before .before .before .before .pre .1 .1 .1 .1 .0)))))
 
 returns-4 : tie.Need-returns-4
-returns-4 c = c .performed .ensures ∙ (rw (c .before .before .before .of .ensures) refl ∙ address-performed _ _ _ _ _ (rw (← (c .before .before .before .before .before .before .avoids-ports .ensures), ← (c .before .before .before .before .before .is-port .ensures)) (c .before .before .before .before .if1 .left)) (rw (← (c .before .before .before .of .ensures)) (sym (c .before .before .suppress .ensures) ∙ c .before .if2 .left)))
+returns-4 c = c .performed .ensures ∙ (rw (c .before .before .before .before .before .before .before .before .pre .1 .1 .1 .1 .1) refl ∙ address-performed _ _ _ _ _ (rw (← (c .before .before .before .before .before .avoids-ports .ensures), ← (c .before .before .before .before .is-port .ensures)) (c .before .before .before .if1 .left)) (rw (← (c .before .before .before .before .before .before .before .before .pre .1 .1 .1 .1 .1)) (sym (c .before .before .suppress .ensures) ∙ c .before .if2 .left)))
 
 pub at-address-spec : {M : Type 1} → statement M
 at-address-spec =
@@ -58,7 +55,6 @@ at-address-spec =
     is-port-requires
     refused-requires
     returns
-    of-requires
     suppress-requires
     has-hazard-requires
     refused-requires-2

@@ -15,20 +15,23 @@ refused-requires c κs = search needs
 returns : tie.Need-returns
 returns c = c .refused .ensures ∙ instruction-waits _ _ _ _ _ _ (c .before .before .finds-buffer .ensures) (not-true _ (c .before .if1 .taken))
 
+of-requires : tie.Need-of-requires
+of-requires c κs = search needs
+
 is-access-requires : tie.Need-is-access-requires
 is-access-requires c κs = search needs
 
 access-requires : tie.Need-access-requires
-access-requires c κs = (c .before .before .before .before .before .before .pre .0, (c .before .before .before .before .before .before .pre .1 .0, (c .before .before .before .before .before .before .pre .1 .1, sym (c .before .is-access .ensures) ∙ c .if2 .taken)))
+access-requires c κs = (c .before .before .before .before .before .before .before .pre .0, (c .before .before .before .before .before .before .before .pre .1 .0, (c .before .before .before .before .before .before .before .pre .1 .1, (sym (c .before .is-access .ensures) ∙ c .if2 .taken, c .before .before .of .ensures))))
 
 returns-2 : tie.Need-returns-2
-returns-2 c = c .access .ensures ∙ instruction-access _ _ _ _ _ _ (c .before .before .before .before .finds-buffer .ensures) (not-false _ (c .before .before .before .if1 .left)) (sym (c .before .before .is-access .ensures) ∙ c .before .if2 .taken)
+returns-2 c = c .access .ensures ∙ instruction-access _ _ _ _ _ _ (c .before .before .before .before .before .finds-buffer .ensures) (not-false _ (c .before .before .before .before .if1 .left)) (sym (c .before .before .is-access .ensures) ∙ c .before .if2 .taken)
 
 plain-requires : tie.Need-plain-requires
-plain-requires c κs = search needs
+plain-requires c κs = (c .before .before .before .before .before .before .before .pre .0, c .before .before .of .ensures)
 
 returns-3 : tie.Need-returns-3
-returns-3 c = c .plain .ensures ∙ instruction-plain _ _ _ _ _ _ (c .before .before .before .before .finds-buffer .ensures) (not-false _ (c .before .before .before .if1 .left)) (sym (c .before .before .is-access .ensures) ∙ c .before .if2 .left)
+returns-3 c = c .plain .ensures ∙ instruction-plain _ _ _ _ _ _ (c .before .before .before .before .before .finds-buffer .ensures) (not-false _ (c .before .before .before .before .if1 .left)) (sym (c .before .before .is-access .ensures) ∙ c .before .if2 .left)
 
 pub instruction-spec : {M : Type 1} → statement M
 instruction-spec =
@@ -37,6 +40,7 @@ instruction-spec =
     finds-buffer-requires
     refused-requires
     returns
+    of-requires
     is-access-requires
     access-requires
     returns-2

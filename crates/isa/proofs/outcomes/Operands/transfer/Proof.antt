@@ -35,8 +35,8 @@ keep-requires-2 c κs = search needs
 enum-told-5 : tie.Need-enum-told-5
 enum-told-5 c = search needs
 
-pass-requires : tie.Need-pass-requires
-pass-requires c κs = search needs
+set-special-requires : tie.Need-set-special-requires
+set-special-requires c κs = search needs
 
 enum-told-6 : tie.Need-enum-told-6
 enum-told-6 c = search needs
@@ -57,7 +57,7 @@ returns-4 : tie.Need-returns-4
 returns-4 c = rw (c .keep2 .ensures, c .before .enum-told4 .given .1)
 
 returns-5 : tie.Need-returns-5
-returns-5 c = rw (c .pass .ensures, c .before .enum-told5 .given .1)
+returns-5 c = rw (c .set-special .ensures, c .before .enum-told5 .given .1)
 
 returns-6 : tie.Need-returns-6
 returns-6 c = rw (c .write3 .ensures, c .before .before .before .before .rt .ensures, c .before .enum-told6 .given .1)
@@ -77,7 +77,7 @@ transfer-spec =
     enum-told-4
     keep-requires-2
     enum-told-5
-    pass-requires
+    set-special-requires
     enum-told-6
     write-requires-3
     returns
