@@ -7,6 +7,7 @@ use Prim.Native.Nat.{ℕ, _+_, _^_, _<_}
 use lib.ListN.{length}
 use lib.Dec.{ltb}
 use borrow.Author.Tests.{ltb-true, lt-ltb}
+use Rattle.word.proofs.Tests.{true-false}
 use Rattle.word.proofs.Bytes.{Bytes}
 use Rattle.word.proofs.Words.{Words}
 use Rattle.layout.specs.Layout.{spr, pto}
@@ -31,7 +32,8 @@ use Rattle.machine.specs.declared.action.Action.{Action}
 use Rattle.machine.specs.declared.action.Action.the-variants.{Refused, Planned, SendIpi, SendEoi, InitCore, StartCore, Sample, Deliver, SetLine}
 use Rattle.machine.specs.Actions.{doable}
 use Rattle.machine.specs.Decide.{ifAllowed, toSend, toEnd, byStep, decided}
-use Rattle.machine.proofs.Forms.{formed, step-formed}
+use Rattle.machine.specs.Split.{formed, isPlan, isPlanned}
+use Rattle.machine.proofs.Forms.{step-formed}
 use Rattle.machine.proofs.Fitting.{quarters}
 use Rattle.apic.specs.Vectors.{isVector}
 use Rattle.apic.proofs.Least.{lowest-vector}
@@ -75,6 +77,35 @@ module _ (t m : List ℕ) where
   able-doable (Deliver l) A = lt-ltb l 24 A
   able-doable (SetLine l v) A = and-both (ltb l 24) _ (lt-ltb l 24 (A .0)) (lt-ltb v 2 (A .1))
 
+  -- a step that has no plan decides none
+  if-no : (b : Bool) (a : Action) → isPlan a ≡ false → isPlan (ifAllowed b a) ≡ false
+  if-no true a p = p
+  if-no false a p = refl
+
+  send-no : (k : ℕ) (s : Sending) → isPlan (toSend k s) ≡ false
+  send-no k (sent.Send i) = refl
+  send-no k sent.Refused = refl
+
+  end-no : (k : ℕ) (f : Found) → isPlan (toEnd k f) ≡ false
+  end-no k (Vector v) = refl
+  end-no k None = refl
+
+  pub no-plan : (x : Step) → isPlanned x ≡ false → isPlan (byStep t m x) ≡ false
+  unfolding byStep
+  no-plan (kind.Core k wI wR) e = absurd (true-false e)
+  no-plan (kind.TlbCreate k va) e = absurd (true-false e)
+  no-plan (kind.TlbExtend k w) e = absurd (true-false e)
+  no-plan (kind.TlbAccessed k w) e = absurd (true-false e)
+  no-plan (kind.StoreBuffer k) e = absurd (true-false e)
+  no-plan (kind.SendIpi k) e = send-no k (sending (block t k))
+  no-plan (kind.SendEoi k) e = end-no k (pendingEoi (block t k))
+  no-plan (kind.InitCore k) e = if-no (mayInit (block t k)) (InitCore k) refl
+  no-plan (kind.StartCore k) e = if-no (mayStart (block t k)) (StartCore k) refl
+  no-plan (kind.Sample l) e = if-no (maySample t l) (Sample l) refl
+  no-plan (kind.Deliver l) e = if-no (mayDeliver t l) (Deliver l) refl
+  no-plan (kind.SetLine l v) e = refl
+  no-plan kind.NotAStep e = refl
+
   module _ (e : sound t (length m) ≡ true) (ws : Words t) (bs : Bytes m) where
     step-able : (x : Step) → formed (coresOf t) x ≡ true → Able (byStep t m x)
     unfolding byStep
@@ -98,9 +129,9 @@ module _ (t m : List ℕ) where
     step-able (kind.SetLine l v) f = (ltb-true l 24 (and-left (ltb l 24) _ f), ltb-true v 2 (and-right (ltb l 24) _ f))
     step-able kind.NotAStep f = tt
 
+    pub step-doable : (x : Step) → formed (coresOf t) x ≡ true → doable (coresOf t) (length m) (byStep t m x) t ≡ true
+    step-doable x f = able-doable (byStep t m x) (step-able x f)
+
     pub decided-able : (s : List ℕ) → Able (decided t m s)
     unfolding decided
     decided-able s = step-able (stepOf (coresOf t) s) (step-formed (coresOf t) s)
-
-    pub decided-doable : (s : List ℕ) → doable (coresOf t) (length m) (decided t m s) t ≡ true
-    decided-doable s = able-doable (decided t m s) (decided-able s)

@@ -1,33 +1,17 @@
 -- What the words of a step bound: cores, lines, a page and a level.
 -- Assumes nothing.
-use mathlib.Core.Path.{_≡_, refl, sym, _∙_, ap, subst}
+use mathlib.Core.Path.{_≡_, refl, subst}
 use mathlib.Core.Bool.{Bool, true, false, _&&_}
 use mathlib.Core.List.{List}
-use Prim.Native.Nat.{ℕ, _+_, _^_, _<_}
+use Prim.Native.Nat.{ℕ, _^_}
 use lib.Dec.{eqb, ltb}
 use lib.ListN.{length}
-use borrow.Author.Tests.{ltb-true}
 use Rattle.word.specs.Word.{if_then_else_}
 use Rattle.records.proofs.Counts.{and-left, and-right, and-both}
 use Rattle.steps.specs.declared.Step.{Step}
 use Rattle.steps.specs.declared.Step.the-variants.{Core, TlbCreate, TlbExtend, TlbAccessed, StoreBuffer, SendIpi, SendEoi, InitCore, StartCore, Sample, Deliver, SetLine, NotAStep}
+use Rattle.machine.specs.Split.{formed}
 use Rattle.steps.specs.Form.{stepOf, orNot, coreStep, lineStep, word, zero2, zero3, zero4, zero5}
-
--- with n cores
-abbrev pub formed : ℕ → Step → Bool
-formed n (Core k v w) = ltb k n
-formed n (TlbCreate k va) = ltb k n && ltb va (2 ^ 20)
-formed n (TlbExtend k w) = ltb k n
-formed n (TlbAccessed k w) = ltb k n
-formed n (StoreBuffer k) = ltb k n
-formed n (SendIpi k) = ltb k n
-formed n (SendEoi k) = ltb k n
-formed n (InitCore k) = ltb k n
-formed n (StartCore k) = ltb k n
-formed n (Sample l) = ltb l 24
-formed n (Deliver l) = ltb l 24
-formed n (SetLine l v) = ltb l 24 && ltb v 2
-formed n NotAStep = true
 
 module _ (n : ℕ) where
   by-if : (t : Bool) (x y : Step) → (t ≡ true → formed n x ≡ true) → formed n y ≡ true → formed n (if t then x else y) ≡ true
@@ -65,9 +49,6 @@ module _ (n : ℕ) where
       (λ f. or-not (ltb (word s 1) 24) (lineStep (word s 0) (word s 1) s) (line-formed (word s 0) (word s 1) s)) refl))
       refl
 
-  -- of the step that was found
-  pub found : (s : List ℕ) {p x : Step} → p ≡ stepOf n s → p ≡ x → formed n x ≡ true
-  found s q e = subst (λ y. formed n y ≡ true) (sym q ∙ e) (step-formed s)
-
-  pub core-of : (k : ℕ) → ltb k n ≡ true → k < n
-  core-of k e = ltb-true k n e
+  -- of a step whose kind is known
+  pub found : {p x : Step} → formed n p ≡ true → p ≡ x → formed n x ≡ true
+  found f e = subst (λ y. formed n y ≡ true) e f

@@ -36,9 +36,13 @@ after (Refused n) a t m = record { answer = Refused n; tables = counted t; memor
 after Done a t m = record { answer = Done; tables = tablesAfter a t; memory = memoryAfter a m }
 after (Interrupt l) a t m = record { answer = Interrupt l; tables = tablesAfter a t; memory = memoryAfter a m }
 
+-- what was decided is done or refused
+abbrev pub settled : Action → List ℕ → List ℕ → Stepped
+settled a t m = after (answerOf a) a t m
+
 -- on sound tables
 unfoldable pub taken : List ℕ → List ℕ → List ℕ → Stepped
-taken t m s = after (answerOf (decided t m s)) (decided t m s) t m
+taken t m s = settled (decided t m s) t m
 
 -- on any: 4 writes nothing
 unfoldable pub step : List ℕ → List ℕ → List ℕ → Stepped

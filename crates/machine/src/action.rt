@@ -3,12 +3,11 @@ use apic::active;
 use apic::active::Ipi;
 use apic::vectors;
 use cores::Plan;
-use cores::commit;
 use ioapic::bus;
 use ioapic::ports;
 use steps::Answer;
 ghost use mathlib.Core.Path.{_≡_};
-ghost use mathlib.Core.Bool.{true};
+ghost use mathlib.Core.Bool.{true, false};
 ghost use Prim.Native.Nat.{_+_, _*_, _<_, _≤_};
 ghost use lib.ListN.{length};
 ghost use Rattle.tables.specs.Sound.{sound};
@@ -16,6 +15,7 @@ ghost use Rattle.tables.specs.Views.{coresOf};
 ghost use Rattle.apic.specs.Active as a;
 ghost use Rattle.ioapic.specs.Blocks.{onBlock};
 ghost use Rattle.machine.specs.Actions as x;
+ghost use Rattle.machine.specs.Split.{isPlan};
 
 pub enum Action {
     Refused(u32),
@@ -73,19 +73,18 @@ fn set_line(t: &mut [u32], l: u32, level: u32)
     t[layout::LINES] = vectors::put_bit(t[layout::LINES], l, level);
 }
 
-// What was decided is done.
+// What was decided by a step that has no plan is done.
 pub fn commit(t: &mut [u32], m: &mut [u8], a: Action)
     requires { ⌜ sound (now t) (length (now m)) ≡ true ⌝ }
     requires { ⌜ x.doable (coresOf (now t)) (length (now m)) a (now t) ≡ true ⌝ }
+    requires { ⌜ isPlan a ≡ false ⌝ }
     ensures { λ _. ⌜ now (t .exit) ≡ x.tablesAfter a (now (t .entry)) ⌝ }
     ensures { λ _. ⌜ now (m .exit) ≡ x.memoryAfter a (now (m .entry)) ⌝ }
 {
     let n = t[layout::CORES] as usize;
     match a {
         Action::Refused(_) => {}
-        Action::Planned(k, p) => {
-            commit::commit(t, m, k, p);
-        }
+        Action::Planned(_, _) => {}
         Action::SendIpi(k, i) => {
             bus::send_ipi(t, n, k as usize, i);
         }

@@ -3,13 +3,14 @@ use super::action::Action;
 use apic::active;
 use apic::active::Sending;
 use apic::vectors::Found;
+use cores::Plan;
 use cores::buffer;
 use cores::fetch;
 use ioapic::ports;
 use records::Walk;
 use steps::Step;
 ghost use mathlib.Core.Path.{_≡_};
-ghost use mathlib.Core.Bool.{true};
+ghost use mathlib.Core.Bool.{true, false};
 ghost use Prim.Native.Nat.{_+_, _*_, _<_, _≤_, _%_};
 ghost use lib.ListN.{length};
 ghost use lib.ListN.{getD};
@@ -18,65 +19,67 @@ ghost use Rattle.layout.specs.Blocks.{block};
 ghost use Rattle.records.specs.Records.{linked, stores, walks};
 ghost use Rattle.records.specs.Contents.{soundRecords};
 ghost use Rattle.tables.specs.Sound.{sound};
-ghost use Rattle.tables.specs.Views.{ioregselOf, iowinOf};
+ghost use Rattle.tables.specs.Views.{coresOf, ioregselOf, iowinOf};
 ghost use Rattle.tlb.specs.Steps as tlb;
 ghost use Rattle.apic.specs.Active as a;
 ghost use Rattle.cores.specs.Core as c;
-ghost use Rattle.cores.specs.Buffer as y;
+ghost use Rattle.cores.specs.Walks.{planned};
+ghost use Rattle.cores.specs.Buffer as z;
 ghost use Rattle.machine.specs.Decide as x;
+ghost use Rattle.machine.specs.Split as y;
 
-fn core(t: &[u32], m: &[u8], k: u32, fetch: Walk, second: Walk) -> Action
+fn core(t: &[u32], m: &[u8], k: u32, fetch: Walk, second: Walk) -> Plan
     requires { ⌜ 32 + 256 * k + 256 ≤ length (now t) ⌝ }
     requires { ⌜ soundRecords (length (now m)) (block (now t) k) ≡ true ⌝ }
     requires { ⌜ length (now m) % 4 ≡ 0 ⌝ }
-    ensures { λ r. ⌜ r ≡ Action.Planned k (c.coreStep (c.viewOf (block (now (t .entry)) k) (ioregselOf (now (t .entry))) (iowinOf (now (t .entry)))) (now (m .entry)) fetch second) ⌝ }
+    ensures { λ r. ⌜ r ≡ c.coreStep (c.viewOf (block (now (t .entry)) k) (ioregselOf (now (t .entry))) (iowinOf (now (t .entry)))) (now (m .entry)) fetch second ⌝ }
 {
     let a = layout::HEADER_WORDS + layout::BLOCK_WORDS * (k as usize);
     let e = a + layout::BLOCK_WORDS;
     let select = t[layout::IOREGSEL];
     let window = t[layout::IOWIN];
-    Action::Planned(k, fetch::decide(&t[a..e], select, window, m, fetch, second))
+    fetch::decide(&t[a..e], select, window, m, fetch, second)
 }
 
-fn create(t: &[u32], k: u32, va: u32) -> Action
+fn create(t: &[u32], k: u32, va: u32) -> Plan
     requires { ⌜ 32 + 256 * k + 256 ≤ length (now t) ⌝ }
     requires { ⌜ linked (block (now t) k) ≡ true ⌝ }
     requires { ⌜ va < 2 ^ 20 ⌝ }
-    ensures { λ r. ⌜ r ≡ x.plannedOn k (block (now (t .entry)) k) (tlb.createOn (block (now (t .entry)) k) va) ⌝ }
+    ensures { λ r. ⌜ r ≡ planned (walks (block (now (t .entry)) k)) (c.isFree (block (now (t .entry)) k)) (tlb.createOn (block (now (t .entry)) k) va) ⌝ }
 {
     let a = layout::HEADER_WORDS + layout::BLOCK_WORDS * (k as usize);
     let e = a + layout::BLOCK_WORDS;
-    Action::Planned(k, buffer::create(&t[a..e], va))
+    buffer::create(&t[a..e], va)
 }
 
-fn extend(t: &[u32], m: &[u8], k: u32, w: Walk) -> Action
+fn extend(t: &[u32], m: &[u8], k: u32, w: Walk) -> Plan
     requires { ⌜ 32 + 256 * k + 256 ≤ length (now t) ⌝ }
     requires { ⌜ linked (block (now t) k) ≡ true ⌝ }
-    ensures { λ r. ⌜ r ≡ x.plannedOn k (block (now (t .entry)) k) (tlb.extendOn (block (now (t .entry)) k) (now (m .entry)) w) ⌝ }
+    ensures { λ r. ⌜ r ≡ planned (walks (block (now (t .entry)) k)) (c.isFree (block (now (t .entry)) k)) (tlb.extendOn (block (now (t .entry)) k) (now (m .entry)) w) ⌝ }
 {
     let a = layout::HEADER_WORDS + layout::BLOCK_WORDS * (k as usize);
     let e = a + layout::BLOCK_WORDS;
-    Action::Planned(k, buffer::extend(&t[a..e], m, w))
+    buffer::extend(&t[a..e], m, w)
 }
 
-fn accessed(t: &[u32], m: &[u8], k: u32, w: Walk) -> Action
+fn accessed(t: &[u32], m: &[u8], k: u32, w: Walk) -> Plan
     requires { ⌜ 32 + 256 * k + 256 ≤ length (now t) ⌝ }
     requires { ⌜ linked (block (now t) k) ≡ true ⌝ }
-    ensures { λ r. ⌜ r ≡ x.plannedOn k (block (now (t .entry)) k) (tlb.accessedOn (block (now (t .entry)) k) (now (m .entry)) w) ⌝ }
+    ensures { λ r. ⌜ r ≡ planned (walks (block (now (t .entry)) k)) (c.isFree (block (now (t .entry)) k)) (tlb.accessedOn (block (now (t .entry)) k) (now (m .entry)) w) ⌝ }
 {
     let a = layout::HEADER_WORDS + layout::BLOCK_WORDS * (k as usize);
     let e = a + layout::BLOCK_WORDS;
-    Action::Planned(k, buffer::accessed(&t[a..e], m, w))
+    buffer::accessed(&t[a..e], m, w)
 }
 
-fn drain(t: &[u32], bytes: usize, k: u32) -> Action
+fn drain(t: &[u32], bytes: usize, k: u32) -> Plan
     requires { ⌜ 32 + 256 * k + 256 ≤ length (now t) ⌝ }
     requires { ⌜ linked (block (now t) k) ≡ true ⌝ }
-    ensures { λ r. ⌜ r ≡ Action.Planned k (y.bufferStep (stores (block (now (t .entry)) k)) bytes) ⌝ }
+    ensures { λ r. ⌜ r ≡ z.bufferStep (stores (block (now (t .entry)) k)) bytes ⌝ }
 {
     let a = layout::HEADER_WORDS + layout::BLOCK_WORDS * (k as usize);
     let e = a + layout::BLOCK_WORDS;
-    Action::Planned(k, buffer::drain(&t[a..e], bytes))
+    buffer::drain(&t[a..e], bytes)
 }
 
 fn send_ipi(t: &[u32], k: u32) -> Action
@@ -129,18 +132,85 @@ fn start_core(t: &[u32], k: u32) -> Action
     if_allowed(active::may_start(&t[a..e]), Action::StartCore(k))
 }
 
-// A step as its words say it.
-pub fn decide(t: &[u32], m: &[u8], s: &[u32]) -> Action
-    requires { ⌜ sound (now t) (length (now m)) ≡ true ⌝ }
-    ensures { λ r. ⌜ r ≡ x.decided (now (t .entry)) (now (m .entry)) (now (s .entry)) ⌝ }
+// Whether a step has a plan: those of a core, of its TLB and of its store buffer.
+pub fn is_planned(p: Step) -> bool
+    ensures { λ r. ⌜ r ≡ y.isPlanned p ⌝ }
 {
-    let p = steps::parse(t[layout::CORES], s);
+    match p {
+        Step::Core(_, _, _) => true,
+        Step::TlbCreate(_, _) => true,
+        Step::TlbExtend(_, _) => true,
+        Step::TlbAccessed(_, _) => true,
+        Step::StoreBuffer(_) => true,
+        Step::SendIpi(_) => false,
+        Step::SendEoi(_) => false,
+        Step::InitCore(_) => false,
+        Step::StartCore(_) => false,
+        Step::Sample(_) => false,
+        Step::Deliver(_) => false,
+        Step::SetLine(_, _) => false,
+        Step::NotAStep => false,
+    }
+}
+
+// The core of a step that has a plan.
+pub fn core_of(p: Step) -> u32
+    ensures { λ r. ⌜ r ≡ y.coreOf p ⌝ }
+{
+    match p {
+        Step::Core(k, _, _) => k,
+        Step::TlbCreate(k, _) => k,
+        Step::TlbExtend(k, _) => k,
+        Step::TlbAccessed(k, _) => k,
+        Step::StoreBuffer(k) => k,
+        Step::SendIpi(_) => 0,
+        Step::SendEoi(_) => 0,
+        Step::InitCore(_) => 0,
+        Step::StartCore(_) => 0,
+        Step::Sample(_) => 0,
+        Step::Deliver(_) => 0,
+        Step::SetLine(_, _) => 0,
+        Step::NotAStep => 0,
+    }
+}
+
+// The plan of a step that has one; no other comes here.
+pub fn plan(t: &[u32], m: &[u8], p: Step) -> Plan
+    requires { ⌜ sound (now t) (length (now m)) ≡ true ⌝ }
+    requires { ⌜ y.formed (coresOf (now t)) p ≡ true ⌝ }
+    requires { ⌜ y.isPlanned p ≡ true ⌝ }
+    ensures { λ r. ⌜ Action.Planned (y.coreOf p) r ≡ x.byStep (now (t .entry)) (now (m .entry)) p ⌝ }
+{
     match p {
         Step::Core(k, fetch, second) => core(t, m, k, fetch, second),
         Step::TlbCreate(k, va) => create(t, k, va),
         Step::TlbExtend(k, w) => extend(t, m, k, w),
         Step::TlbAccessed(k, w) => accessed(t, m, k, w),
         Step::StoreBuffer(k) => drain(t, m.len(), k),
+        Step::SendIpi(_) => cores::refused(5),
+        Step::SendEoi(_) => cores::refused(5),
+        Step::InitCore(_) => cores::refused(5),
+        Step::StartCore(_) => cores::refused(5),
+        Step::Sample(_) => cores::refused(5),
+        Step::Deliver(_) => cores::refused(5),
+        Step::SetLine(_, _) => cores::refused(5),
+        Step::NotAStep => cores::refused(5),
+    }
+}
+
+// What a step decides that has no plan; no other comes here.
+pub fn action(t: &[u32], m: &[u8], p: Step) -> Action
+    requires { ⌜ sound (now t) (length (now m)) ≡ true ⌝ }
+    requires { ⌜ y.formed (coresOf (now t)) p ≡ true ⌝ }
+    requires { ⌜ y.isPlanned p ≡ false ⌝ }
+    ensures { λ r. ⌜ r ≡ x.byStep (now (t .entry)) (now (m .entry)) p ⌝ }
+{
+    match p {
+        Step::Core(_, _, _) => Action::Refused(5),
+        Step::TlbCreate(_, _) => Action::Refused(5),
+        Step::TlbExtend(_, _) => Action::Refused(5),
+        Step::TlbAccessed(_, _) => Action::Refused(5),
+        Step::StoreBuffer(_) => Action::Refused(5),
         Step::SendIpi(k) => send_ipi(t, k),
         Step::SendEoi(k) => send_eoi(t, k),
         Step::InitCore(k) => init_core(t, k),

@@ -3,13 +3,17 @@ pub mod action;
 pub mod decide;
 pub mod run;
 
-use action::Action;
+use cores::commit;
 use steps::Answer;
+use steps::Step;
 ghost use mathlib.Core.Path.{_≡_};
-ghost use mathlib.Core.Bool.{true};
+ghost use mathlib.Core.Bool.{true, false};
 ghost use Prim.Native.Nat.{_≤_};
 ghost use lib.ListN.{length};
 ghost use Rattle.tables.specs.Sound.{sound};
+ghost use Rattle.tables.specs.Views.{coresOf};
+ghost use Rattle.machine.specs.Decide.{byStep};
+ghost use Rattle.machine.specs.Split as y;
 ghost use Rattle.machine.specs.Step as x;
 
 pub(crate) fn is_accepted(a: Answer) -> bool
@@ -33,14 +37,36 @@ fn count(t: &mut [u32])
     }
 }
 
-// A step on sound tables.
-pub fn take(t: &mut [u32], m: &mut [u8], s: &[u32]) -> Answer
+// A step of a core, of its TLB or of its store buffer, on sound tables.
+fn by_plan(t: &mut [u32], m: &mut [u8], p: Step) -> Answer
     requires { ⌜ sound (now t) (length (now m)) ≡ true ⌝ }
-    ensures { λ r. ⌜ r ≡ x.taken (now (t .entry)) (now (m .entry)) (now (s .entry)) .answer ⌝ }
-    ensures { λ _. ⌜ now (t .exit) ≡ x.taken (now (t .entry)) (now (m .entry)) (now (s .entry)) .tables ⌝ }
-    ensures { λ _. ⌜ now (m .exit) ≡ x.taken (now (t .entry)) (now (m .entry)) (now (s .entry)) .memory ⌝ }
+    requires { ⌜ y.formed (coresOf (now t)) p ≡ true ⌝ }
+    requires { ⌜ y.isPlanned p ≡ true ⌝ }
+    ensures { λ r. ⌜ r ≡ x.settled (byStep (now (t .entry)) (now (m .entry)) p) (now (t .entry)) (now (m .entry)) .answer ⌝ }
+    ensures { λ _. ⌜ now (t .exit) ≡ x.settled (byStep (now (t .entry)) (now (m .entry)) p) (now (t .entry)) (now (m .entry)) .tables ⌝ }
+    ensures { λ _. ⌜ now (m .exit) ≡ x.settled (byStep (now (t .entry)) (now (m .entry)) p) (now (t .entry)) (now (m .entry)) .memory ⌝ }
 {
-    let a = decide::decide(t, m, s);
+    let k = decide::core_of(p);
+    let plan = decide::plan(t, m, p);
+    let r = plan.answer;
+    if is_accepted(r) {
+        commit::commit(t, m, k, plan);
+        return r;
+    }
+    count(t);
+    r
+}
+
+// Any other step on sound tables.
+fn by_action(t: &mut [u32], m: &mut [u8], p: Step) -> Answer
+    requires { ⌜ sound (now t) (length (now m)) ≡ true ⌝ }
+    requires { ⌜ y.formed (coresOf (now t)) p ≡ true ⌝ }
+    requires { ⌜ y.isPlanned p ≡ false ⌝ }
+    ensures { λ r. ⌜ r ≡ x.settled (byStep (now (t .entry)) (now (m .entry)) p) (now (t .entry)) (now (m .entry)) .answer ⌝ }
+    ensures { λ _. ⌜ now (t .exit) ≡ x.settled (byStep (now (t .entry)) (now (m .entry)) p) (now (t .entry)) (now (m .entry)) .tables ⌝ }
+    ensures { λ _. ⌜ now (m .exit) ≡ x.settled (byStep (now (t .entry)) (now (m .entry)) p) (now (t .entry)) (now (m .entry)) .memory ⌝ }
+{
+    let a = decide::action(t, m, p);
     let r = action::answer(a);
     if is_accepted(r) {
         action::commit(t, m, a);
@@ -48,6 +74,21 @@ pub fn take(t: &mut [u32], m: &mut [u8], s: &[u32]) -> Answer
     }
     count(t);
     r
+}
+
+// A step on sound tables, as its words say it. Steps that have a plan go their own way: a plan is large, and joined with the other actions it
+// would be copied from hand to hand.
+pub fn take(t: &mut [u32], m: &mut [u8], s: &[u32]) -> Answer
+    requires { ⌜ sound (now t) (length (now m)) ≡ true ⌝ }
+    ensures { λ r. ⌜ r ≡ x.taken (now (t .entry)) (now (m .entry)) (now (s .entry)) .answer ⌝ }
+    ensures { λ _. ⌜ now (t .exit) ≡ x.taken (now (t .entry)) (now (m .entry)) (now (s .entry)) .tables ⌝ }
+    ensures { λ _. ⌜ now (m .exit) ≡ x.taken (now (t .entry)) (now (m .entry)) (now (s .entry)) .memory ⌝ }
+{
+    let p = steps::parse(t[layout::CORES], s);
+    if decide::is_planned(p) {
+        return by_plan(t, m, p);
+    }
+    by_action(t, m, p)
 }
 
 // A step on any tables.

@@ -6,10 +6,12 @@ use denote.Ref.{now}
 use lib.ListN.{length}
 use native.Mathlib.Omega.{arith}
 use borrow.Author.Tests.{ltb-true}
+use Rattle.word.proofs.Tests.{true-false}
 use Rattle.tables.specs.Views.{coresOf}
 use Rattle.tables.proofs.Lift.{header}
-use Rattle.machine.proofs.Fitting.{header-words, has, chains, planned-asks, ipi-asks, eoi-asks, init-asks, start-asks, sample-asks, deliver-asks, line-asks}
+use Rattle.machine.proofs.Fitting.{header-words, has, ipi-asks, eoi-asks, init-asks, start-asks, sample-asks, deliver-asks, line-asks}
 use Rattle.machine.specs.Actions.{tablesAfter, memoryAfter}
+use Rattle.machine.specs.Split.{isPlan}
 
 slice-read-n : tie.Need-slice-read-n
 slice-read-n c = let h = header-words (now (c .before .before .before .args .t)) (length (now (c .before .before .before .args .m))) (c .before .before .before .pre .0) in omega (arith, h)
@@ -20,128 +22,118 @@ cast-n c = let H = header (now (c .before .before .before .args .t)) (length (no
 enum-told : tie.Need-enum-told
 enum-told c = search needs
 
+enum-told-2 : tie.Need-enum-told-2
+enum-told-2 c = search needs
+
 enum-known-a : tie.Need-enum-known-a
 enum-known-a c = search needs
-
-commit-requires : tie.Need-commit-requires
-commit-requires c κs = let f = planned-asks (coresOf (now (c .before .before .before .before .before .before .before .before .args .t))) (length (now (c .before .before .before .before .before .before .before .before .args .m))) (now (c .before .before .before .before .before .before .before .before .args .t)) (c .before .before .before .before .before .before .before .before .pre .1) _ _ (c .before .before .before .a .given .1) in (has (now (c .before .before .before .before .before .before .before .before .args .t)) (length (now (c .before .before .before .before .before .before .before .before .args .m))) (c .before .before .before .before .before .before .before .before .pre .0) _ (f .0), (chains (now (c .before .before .before .before .before .before .before .before .args .t)) (length (now (c .before .before .before .before .before .before .before .before .args .m))) (c .before .before .before .before .before .before .before .before .pre .0) _ (f .0), (f .2, f .1)))
-
-enum-known-a-2 : tie.Need-enum-known-a-2
-enum-known-a-2 c = search needs
 
 cast-send-ipi : tie.Need-cast-send-ipi
 cast-send-ipi c = search needs
 
 send-ipi-requires : tie.Need-send-ipi-requires
-send-ipi-requires c κs = let f = ipi-asks (coresOf (now (c .before .before .before .before .before .before .before .args .t))) (length (now (c .before .before .before .before .before .before .before .args .m))) (now (c .before .before .before .before .before .before .before .args .t)) (c .before .before .before .before .before .before .before .pre .1) _ _ (c .before .before .a2 .given .1) in let H = header (now (c .before .before .before .before .before .before .before .args .t)) (length (now (c .before .before .before .before .before .before .before .args .m))) (c .before .before .before .before .before .before .before .pre .0) in (H .few-cores, H .long, ltb-true _ _ (f .0), f .1)
+send-ipi-requires c κs = let f = ipi-asks (coresOf (now (c .before .before .before .before .before .before .before .args .t))) (length (now (c .before .before .before .before .before .before .before .args .m))) (now (c .before .before .before .before .before .before .before .args .t)) (c .before .before .before .before .before .before .before .pre .1 .0) _ _ (c .before .before .a .given .1) in let H = header (now (c .before .before .before .before .before .before .before .args .t)) (length (now (c .before .before .before .before .before .before .before .args .m))) (c .before .before .before .before .before .before .before .pre .0) in (H .few-cores, H .long, ltb-true _ _ (f .0), f .1)
 
-enum-known-a-3 : tie.Need-enum-known-a-3
-enum-known-a-3 c = search needs
+enum-known-a-2 : tie.Need-enum-known-a-2
+enum-known-a-2 c = search needs
 
 cast-send-eoi : tie.Need-cast-send-eoi
 cast-send-eoi c = search needs
 
 send-eoi-requires : tie.Need-send-eoi-requires
-send-eoi-requires c κs = let f = eoi-asks (coresOf (now (c .before .before .before .before .before .before .before .args .t))) (length (now (c .before .before .before .before .before .before .before .args .m))) (now (c .before .before .before .before .before .before .before .args .t)) (c .before .before .before .before .before .before .before .pre .1) _ _ (c .before .before .a3 .given .1) in let H = header (now (c .before .before .before .before .before .before .before .args .t)) (length (now (c .before .before .before .before .before .before .before .args .m))) (c .before .before .before .before .before .before .before .pre .0) in (H .few-cores, H .long, ltb-true _ _ (f .0), f .1)
+send-eoi-requires c κs = let f = eoi-asks (coresOf (now (c .before .before .before .before .before .before .before .args .t))) (length (now (c .before .before .before .before .before .before .before .args .m))) (now (c .before .before .before .before .before .before .before .args .t)) (c .before .before .before .before .before .before .before .pre .1 .0) _ _ (c .before .before .a2 .given .1) in let H = header (now (c .before .before .before .before .before .before .before .args .t)) (length (now (c .before .before .before .before .before .before .before .args .m))) (c .before .before .before .before .before .before .before .pre .0) in (H .few-cores, H .long, ltb-true _ _ (f .0), f .1)
+
+enum-known-a-3 : tie.Need-enum-known-a-3
+enum-known-a-3 c = search needs
+
+init-core-requires : tie.Need-init-core-requires
+init-core-requires c κs = has (now (c .before .before .before .before .before .before .before .args .t)) (length (now (c .before .before .before .before .before .before .before .args .m))) (c .before .before .before .before .before .before .before .pre .0) _ (init-asks (coresOf (now (c .before .before .before .before .before .before .before .args .t))) (length (now (c .before .before .before .before .before .before .before .args .m))) (now (c .before .before .before .before .before .before .before .args .t)) (c .before .before .before .before .before .before .before .pre .1 .0) _ (c .before .before .a3 .given .1))
 
 enum-known-a-4 : tie.Need-enum-known-a-4
 enum-known-a-4 c = search needs
 
-init-core-requires : tie.Need-init-core-requires
-init-core-requires c κs = has (now (c .before .before .before .before .before .before .before .args .t)) (length (now (c .before .before .before .before .before .before .before .args .m))) (c .before .before .before .before .before .before .before .pre .0) _ (init-asks (coresOf (now (c .before .before .before .before .before .before .before .args .t))) (length (now (c .before .before .before .before .before .before .before .args .m))) (now (c .before .before .before .before .before .before .before .args .t)) (c .before .before .before .before .before .before .before .pre .1) _ (c .before .before .a4 .given .1))
+start-core-requires : tie.Need-start-core-requires
+start-core-requires c κs = has (now (c .before .before .before .before .before .before .before .args .t)) (length (now (c .before .before .before .before .before .before .before .args .m))) (c .before .before .before .before .before .before .before .pre .0) _ (start-asks (coresOf (now (c .before .before .before .before .before .before .before .args .t))) (length (now (c .before .before .before .before .before .before .before .args .m))) (now (c .before .before .before .before .before .before .before .args .t)) (c .before .before .before .before .before .before .before .pre .1 .0) _ (c .before .before .a4 .given .1))
 
 enum-known-a-5 : tie.Need-enum-known-a-5
 enum-known-a-5 c = search needs
-
-start-core-requires : tie.Need-start-core-requires
-start-core-requires c κs = has (now (c .before .before .before .before .before .before .before .args .t)) (length (now (c .before .before .before .before .before .before .before .args .m))) (c .before .before .before .before .before .before .before .pre .0) _ (start-asks (coresOf (now (c .before .before .before .before .before .before .before .args .t))) (length (now (c .before .before .before .before .before .before .before .args .m))) (now (c .before .before .before .before .before .before .before .args .t)) (c .before .before .before .before .before .before .before .pre .1) _ (c .before .before .a5 .given .1))
-
-enum-known-a-6 : tie.Need-enum-known-a-6
-enum-known-a-6 c = search needs
 
 cast-sample : tie.Need-cast-sample
 cast-sample c = search needs
 
 sample-requires : tie.Need-sample-requires
-sample-requires c κs = (header-words (now (c .before .before .before .before .before .before .before .args .t)) (length (now (c .before .before .before .before .before .before .before .args .m))) (c .before .before .before .before .before .before .before .pre .0), sample-asks (coresOf (now (c .before .before .before .before .before .before .before .args .t))) (length (now (c .before .before .before .before .before .before .before .args .m))) (now (c .before .before .before .before .before .before .before .args .t)) (c .before .before .before .before .before .before .before .pre .1) _ (c .before .before .a6 .given .1))
+sample-requires c κs = (header-words (now (c .before .before .before .before .before .before .before .args .t)) (length (now (c .before .before .before .before .before .before .before .args .m))) (c .before .before .before .before .before .before .before .pre .0), sample-asks (coresOf (now (c .before .before .before .before .before .before .before .args .t))) (length (now (c .before .before .before .before .before .before .before .args .m))) (now (c .before .before .before .before .before .before .before .args .t)) (c .before .before .before .before .before .before .before .pre .1 .0) _ (c .before .before .a5 .given .1))
 
-enum-known-a-7 : tie.Need-enum-known-a-7
-enum-known-a-7 c = search needs
+enum-known-a-6 : tie.Need-enum-known-a-6
+enum-known-a-6 c = search needs
 
 cast-deliver : tie.Need-cast-deliver
 cast-deliver c = search needs
 
 deliver-requires : tie.Need-deliver-requires
-deliver-requires c κs = let H = header (now (c .before .before .before .before .before .before .before .args .t)) (length (now (c .before .before .before .before .before .before .before .args .m))) (c .before .before .before .before .before .before .before .pre .0) in (H .few-cores, H .long, deliver-asks (coresOf (now (c .before .before .before .before .before .before .before .args .t))) (length (now (c .before .before .before .before .before .before .before .args .m))) (now (c .before .before .before .before .before .before .before .args .t)) (c .before .before .before .before .before .before .before .pre .1) _ (c .before .before .a7 .given .1))
+deliver-requires c κs = let H = header (now (c .before .before .before .before .before .before .before .args .t)) (length (now (c .before .before .before .before .before .before .before .args .m))) (c .before .before .before .before .before .before .before .pre .0) in (H .few-cores, H .long, deliver-asks (coresOf (now (c .before .before .before .before .before .before .before .args .t))) (length (now (c .before .before .before .before .before .before .before .args .m))) (now (c .before .before .before .before .before .before .before .args .t)) (c .before .before .before .before .before .before .before .pre .1 .0) _ (c .before .before .a6 .given .1))
 
-enum-known-a-8 : tie.Need-enum-known-a-8
-enum-known-a-8 c = search needs
+enum-known-a-7 : tie.Need-enum-known-a-7
+enum-known-a-7 c = search needs
 
 set-line-requires : tie.Need-set-line-requires
-set-line-requires c κs = let f = line-asks (coresOf (now (c .before .before .before .before .before .before .before .args .t))) (length (now (c .before .before .before .before .before .before .before .args .m))) (now (c .before .before .before .before .before .before .before .args .t)) (c .before .before .before .before .before .before .before .pre .1) _ _ (c .before .before .a8 .given .1) in (header-words (now (c .before .before .before .before .before .before .before .args .t)) (length (now (c .before .before .before .before .before .before .before .args .m))) (c .before .before .before .before .before .before .before .pre .0), f .0, f .1)
+set-line-requires c κs = let f = line-asks (coresOf (now (c .before .before .before .before .before .before .before .args .t))) (length (now (c .before .before .before .before .before .before .before .args .m))) (now (c .before .before .before .before .before .before .before .args .t)) (c .before .before .before .before .before .before .before .pre .1 .0) _ _ (c .before .before .a7 .given .1) in (header-words (now (c .before .before .before .before .before .before .before .args .t)) (length (now (c .before .before .before .before .before .before .before .args .m))) (c .before .before .before .before .before .before .before .pre .0), f .0, f .1)
 
 returns : tie.Need-returns
 unfolding tablesAfter memoryAfter
 returns c = (rw (c .enum-told .given .1) refl, rw (c .enum-told .given .1) refl)
 
+returns-2 : tie.Need-returns-2
+returns-2 c = absurd (true-false (sym (ap isPlan (c .enum-told2 .given .1)) ∙ c .before .before .before .before .before .pre .1 .1))
+
 same-length : tie.Need-same-length
 same-length c = search needs
+
+returns-3 : tie.Need-returns-3
+unfolding tablesAfter memoryAfter
+returns-3 c = (c .before .before .send-ipi .ensures ∙ rw (c .before .before .before .before .before .a .given .1) refl, rw (c .before .before .before .before .before .a .given .1) refl)
 
 same-length-2 : tie.Need-same-length-2
 same-length-2 c = search needs
 
-returns-2 : tie.Need-returns-2
+returns-4 : tie.Need-returns-4
 unfolding tablesAfter memoryAfter
-returns-2 c = (c .before .before .before .before .commit .ensures .0 ∙ rw (c .before .before .before .before .before .before .before .before .a .given .1) refl, c .before .before .before .before .commit .ensures .1 ∙ rw (c .before .before .before .before .before .before .before .before .a .given .1) refl)
+returns-4 c = (c .before .before .send-eoi .ensures ∙ rw (c .before .before .before .before .before .a2 .given .1) refl, rw (c .before .before .before .before .before .a2 .given .1) refl)
 
 same-length-3 : tie.Need-same-length-3
 same-length-3 c = search needs
 
-returns-3 : tie.Need-returns-3
+returns-5 : tie.Need-returns-5
 unfolding tablesAfter memoryAfter
-returns-3 c = (c .before .before .send-ipi .ensures ∙ rw (c .before .before .before .before .before .a2 .given .1) refl, rw (c .before .before .before .before .before .a2 .given .1) refl)
+returns-5 c = (c .before .before .init-core .ensures ∙ rw (c .before .before .before .before .before .a3 .given .1) refl, rw (c .before .before .before .before .before .a3 .given .1) refl)
 
 same-length-4 : tie.Need-same-length-4
 same-length-4 c = search needs
 
-returns-4 : tie.Need-returns-4
+returns-6 : tie.Need-returns-6
 unfolding tablesAfter memoryAfter
-returns-4 c = (c .before .before .send-eoi .ensures ∙ rw (c .before .before .before .before .before .a3 .given .1) refl, rw (c .before .before .before .before .before .a3 .given .1) refl)
+returns-6 c = (c .before .before .start-core .ensures ∙ rw (c .before .before .before .before .before .a4 .given .1) refl, rw (c .before .before .before .before .before .a4 .given .1) refl)
 
 same-length-5 : tie.Need-same-length-5
 same-length-5 c = search needs
 
-returns-5 : tie.Need-returns-5
+returns-7 : tie.Need-returns-7
 unfolding tablesAfter memoryAfter
-returns-5 c = (c .before .before .init-core .ensures ∙ rw (c .before .before .before .before .before .a4 .given .1) refl, rw (c .before .before .before .before .before .a4 .given .1) refl)
+returns-7 c = (c .before .before .sample .ensures ∙ rw (c .before .before .before .before .before .a5 .given .1) refl, rw (c .before .before .before .before .before .a5 .given .1) refl)
 
 same-length-6 : tie.Need-same-length-6
 same-length-6 c = search needs
 
-returns-6 : tie.Need-returns-6
+returns-8 : tie.Need-returns-8
 unfolding tablesAfter memoryAfter
-returns-6 c = (c .before .before .start-core .ensures ∙ rw (c .before .before .before .before .before .a5 .given .1) refl, rw (c .before .before .before .before .before .a5 .given .1) refl)
+returns-8 c = (c .before .before .deliver .ensures ∙ rw (c .before .before .before .before .before .a6 .given .1) refl, rw (c .before .before .before .before .before .a6 .given .1) refl)
 
 same-length-7 : tie.Need-same-length-7
 same-length-7 c = search needs
 
-returns-7 : tie.Need-returns-7
-unfolding tablesAfter memoryAfter
-returns-7 c = (c .before .before .sample .ensures ∙ rw (c .before .before .before .before .before .a6 .given .1) refl, rw (c .before .before .before .before .before .a6 .given .1) refl)
-
-same-length-8 : tie.Need-same-length-8
-same-length-8 c = search needs
-
-returns-8 : tie.Need-returns-8
-unfolding tablesAfter memoryAfter
-returns-8 c = (c .before .before .deliver .ensures ∙ rw (c .before .before .before .before .before .a7 .given .1) refl, rw (c .before .before .before .before .before .a7 .given .1) refl)
-
-same-length-9 : tie.Need-same-length-9
-same-length-9 c = search needs
-
 returns-9 : tie.Need-returns-9
 unfolding tablesAfter memoryAfter
-returns-9 c = (c .before .before .set-line .ensures ∙ rw (c .before .before .before .before .before .a8 .given .1) refl, rw (c .before .before .before .before .before .a8 .given .1) refl)
+returns-9 c = (c .before .before .set-line .ensures ∙ rw (c .before .before .before .before .before .a7 .given .1) refl, rw (c .before .before .before .before .before .a7 .given .1) refl)
 
 pub commit-spec : {M : Type 1} → statement M
 commit-spec =
@@ -150,41 +142,38 @@ commit-spec =
     slice-read-n
     cast-n
     enum-told
+    enum-told-2
     enum-known-a
-    commit-requires
-    enum-known-a-2
     cast-send-ipi
     send-ipi-requires
-    enum-known-a-3
+    enum-known-a-2
     cast-send-eoi
     send-eoi-requires
-    enum-known-a-4
+    enum-known-a-3
     init-core-requires
-    enum-known-a-5
+    enum-known-a-4
     start-core-requires
-    enum-known-a-6
+    enum-known-a-5
     cast-sample
     sample-requires
-    enum-known-a-7
+    enum-known-a-6
     cast-deliver
     deliver-requires
-    enum-known-a-8
+    enum-known-a-7
     set-line-requires
     returns
-    same-length
-    same-length-2
     returns-2
-    same-length-3
+    same-length
     returns-3
-    same-length-4
+    same-length-2
     returns-4
-    same-length-5
+    same-length-3
     returns-5
-    same-length-6
+    same-length-4
     returns-6
-    same-length-7
+    same-length-5
     returns-7
-    same-length-8
+    same-length-6
     returns-8
-    same-length-9
+    same-length-7
     returns-9)
