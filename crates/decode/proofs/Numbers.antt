@@ -131,10 +131,6 @@ numbered (Instruction.Alu x) = alu-numbered x
 numbered (Instruction.System x) = system-numbered x
 numbered Illegal = refl
 
--- two instructions with one number are one
-pub same-number : (i j : Instruction) → number i ≡ number j → i ≡ j
-same-number i j e = sym (numbered i) ∙ (ap (λ (n : ℕ). nameAt table n) e ∙ numbered j)
-
 -- a test of every row and of an illegal word
 abbrev pub everywhere : (Instruction → Bool) → List Row → Bool
 everywhere p [] = p Illegal

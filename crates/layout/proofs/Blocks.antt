@@ -54,14 +54,6 @@ module _ (t : List ℕ) (k : ℕ) (b : List ℕ) (h : 32 + 256 * k + 256 ≤ len
   unfolding withBlock block
   with-block = ap (take 256) (drop-at (take a t) (b ++ drop 256 (drop a t)) a start) ∙ take-at b (drop 256 (drop a t)) 256 long
 
-  -- its words
-  pub with-inside : (i : ℕ) → i < 256 → getD (withBlock t k b) (a + i) 0 ≡ getD b i 0
-  unfolding withBlock
-  with-inside i p =
-      ap (λ (n : ℕ). getD (withBlock t k b) (n + i) 0) (sym start)
-      ∙ getD-append-add (take a t) (b ++ drop 256 (drop a t)) i 0
-      ∙ List·getD-append b (drop 256 (drop a t)) 0 i (omega arith)
-
   -- the words before it and after it
   pub with-before : (i : ℕ) → i < a → getD (withBlock t k b) i 0 ≡ getD t i 0
   unfolding withBlock
@@ -98,20 +90,3 @@ module _ (t : List ℕ) (k : ℕ) (b : List ℕ) (h : 32 + 256 * k + 256 ≤ len
 pub set-block : (t : List ℕ) (i v k : ℕ) → i < 32 → block (set t i v) k ≡ block t k
 unfolding block
 set-block t i v k h = ap (take 256) (drop-set-lt (32 + 256 * k) t i v (omega arith))
-
--- and a block put in besides
-pub with-set : (t : List ℕ) (i v k : ℕ) (b : List ℕ) → i < 32 → 32 + 256 * k ≤ length t → withBlock (set t i v) k b ≡ set (withBlock t k b) i v
-unfolding withBlock
-with-set t i v k b h l =
-    let a : ℕ = 32 + 256 * k in
-    (λ j. take-set-lt a t i v (omega arith) j ++ (b ++ drop 256 (drop-set-lt a t i v (omega arith) j)))
-    ∙ sym (set-append-left (take a t) (b ++ drop 256 (drop a t)) i v (omega (arith, length-take-le a t l)))
-
--- a block put in twice
-pub with-with : (t : List ℕ) (k : ℕ) (b c : List ℕ) → 32 + 256 * k ≤ length t → length b ≡ 256 → withBlock (withBlock t k b) k c ≡ withBlock t k c
-unfolding withBlock
-with-with t k b c l long =
-    let a : ℕ = 32 + 256 * k in
-    let rest : List ℕ = b ++ drop 256 (drop a t) in
-    let e : length (take a t) ≡ a = length-take-le a t l in
-    λ j. take-at (take a t) rest a e j ++ (c ++ (ap (drop 256) (drop-at (take a t) rest a e) ∙ drop-at b (drop 256 (drop a t)) 256 long) j)

@@ -114,13 +114,9 @@ records = 128
 abbrev pub recordWords : ℕ
 recordWords = 4
 
--- where record r starts in its block
+-- where record r starts in its block: the next record's number, then three words of contents
 abbrev pub recordAt : ℕ → ℕ
 recordAt r = records + recordWords * r
-
--- the words of a record: the next record's number, then three of contents
-abbrev pub nextRecord : ℕ
-nextRecord = 0
 
 -- ---- memory: 1 to 4,096 pages of 4,096 bytes
 

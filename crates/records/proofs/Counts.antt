@@ -41,11 +41,6 @@ pub and-both : (a b : Bool) → a ≡ true → b ≡ true → a && b ≡ true
 and-both true b p q = q
 and-both false b p q = p
 
--- a number that is not in a list is not its head, and not in its tail
-pub count-none : (r x : ℕ) (l : List ℕ) → count r (x ∷ l) ≡ 0 → (r ≡ x → ⊥) × (count r l ≡ 0)
-unfolding count
-count-none r x l e = ⊎-elim (λ w. absurd (omega arith)) (λ w. (w .0, omega arith)) (bit-cases r x)
-
 pub count-head : (x : ℕ) (l : List ℕ) → 0 < count x (x ∷ l)
 count-head x l = omega (arith, count-here x l)
 

@@ -80,16 +80,6 @@ module _ (n : ℕ) (s : Store) where
         inside = and-right (ltb (s .value) (256 ^ s .width)) _ e₂;
       }
 
-  pub facts-store : StoreFacts n s → storeSound n s ≡ true
-  unfolding storeSound
-  facts-store F =
-      and-both (eqb (s .width) 1 || (eqb (s .width) 2 || eqb (s .width) 4)) _
-      (⊎-elim (λ p. or-first (eqb (s .width) 1) _ (eq-eqb (s .width) 1 p))
-      (λ p. or-second (eqb (s .width) 1) _ (⊎-elim (λ q. or-first (eqb (s .width) 2) _ (eq-eqb (s .width) 2 q)) (λ q. or-second (eqb (s .width) 2) _ (eq-eqb (s .width) 4 q)) p))
-      (F .wide))
-      (and-both (eqb (s .address % s .width) 0) _ (eq-eqb (s .address % s .width) 0 (F .aligned))
-      (and-both (ltb (s .value) (256 ^ s .width)) _ (lt-ltb (s .value) (256 ^ s .width) (F .fits)) (F .inside)))
-
 pub record WalkFacts (w : Walk) : Type 0 where
   pub level : levelOf (w .first) ≤ 2
   pub clear : w .first / 32 % 2 ≡ 0
@@ -105,9 +95,3 @@ module _ (w : Walk) where
         clear = eqb-true (w .first / 32 % 2) 0 (and-left (eqb (w .first / 32 % 2) 0) _ e₁);
         base = ltb-true (w .second) (2 ^ 20) (and-right (eqb (w .first / 32 % 2) 0) _ e₁);
       }
-
-  pub facts-walk : WalkFacts w → walkSound w ≡ true
-  unfolding walkSound
-  facts-walk F =
-      and-both (leb (levelOf (w .first)) 2) _ (le-leb (levelOf (w .first)) 2 (F .level))
-      (and-both (eqb (w .first / 32 % 2) 0) _ (eq-eqb (w .first / 32 % 2) 0 (F .clear)) (lt-ltb (w .second) (2 ^ 20) (F .base)))

@@ -121,29 +121,6 @@ number-low [] i e = omega arith
 number-low (m ∷ l) zero e = low-next m l e .0
 number-low (m ∷ l) (suc i) e = number-low l i (low-next m l e .1)
 
--- the link of the record at a place is the number at the next
-pub number-next : (k : ℕ) (b : List ℕ) (n i : ℕ) → suc i < length (chain k b n) → getD b (recordAt (getD (chain k b n) i 0)) 0 ≡ getD (chain k b n) (suc i) 0
-unfolding chain
-number-next zero b n i h = absurd (omega arith)
-number-next (suc k) b zero i h = absurd (omega arith)
-number-next (suc k) b (suc m) zero h = first (chain k b (getD b (recordAt (suc m)) 0)) k (getD b (recordAt (suc m)) 0) refl (omega arith)
-  where
-    first : (l : List ℕ) (k n : ℕ) → chain k b n ≡ l → 0 < length l → n ≡ getD l 0 0
-    first l zero n e h = absurd (omega (arith, ap (λ (r : List ℕ). length r) e))
-    first l (suc k) zero e h = absurd (omega (arith, ap (λ (r : List ℕ). length r) e))
-    first l (suc k) (suc n) e h = ap (λ (r : List ℕ). getD r 0 0) e
-number-next (suc k) b (suc m) (suc i) h =
-    number-next k b (getD b (recordAt (suc m)) 0) i (omega arith)
-
-pub number-first : (b : List ℕ) (h : ℕ) → 0 < length (chainAt b h) → getD b h 0 ≡ getD (chainAt b h) 0 0
-unfolding chain
-number-first b h p = go 32 (getD b h 0) p
-  where
-    go : (k n : ℕ) → 0 < length (chain k b n) → n ≡ getD (chain k b n) 0 0
-    go zero n p = absurd (omega arith)
-    go (suc k) zero p = absurd (omega arith)
-    go (suc k) (suc n) p = refl
-
 -- what the record at a place holds
 pub at-map : {A : Type 0} (f : ℕ → A) (l : List ℕ) (i : ℕ) (e : A) → i < length l → getD (map f l) i e ≡ f (getD l i 0)
 at-map f [] i e h = absurd (omega arith)

@@ -55,9 +55,6 @@ walks b = map (walkIn b) (walkNumbers b)
 abbrev pub noStore : Store
 noStore = record { address = 0; value = 0; width = 0 }
 
-abbrev pub noWalk : Walk
-noWalk = record { first = 0; second = 0 }
-
 -- ---- lists
 
 -- a test of every number from 1 to k, and of every element of a list

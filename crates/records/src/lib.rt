@@ -157,63 +157,6 @@ pub fn drop_walks(b: &mut [u32], f: Flush)
     }
 }
 
-// The number of the record at a place in a chain.
-fn number_at(b: &[u32], head: usize, place: usize) -> u32
-    requires { ⌜ (length (now b) ≡ 256) × (head < 256) ⌝ }
-    requires { ⌜ x.all x.small (x.chainAt (now b) head) ≡ true ⌝ }
-    requires { ⌜ place < length (x.chainAt (now b) head) ⌝ }
-    ensures { λ r. ⌜ r ≡ getD (x.chainAt (now (b .entry)) head) place 0 ⌝ }
-{
-    let mut n = b[head];
-    let mut k: usize = 0;
-    while k < place {
-        n = b[RECORDS + RECORD_WORDS * (n as usize)];
-        k += 1;
-    }
-    n
-}
-
-// The number of the record that holds the pending store at a place, the oldest at 0.
-pub fn store_number(b: &[u32], place: usize) -> u32
-    requires { ⌜ length (now b) ≡ 256 ⌝ }
-    requires { ⌜ x.linked (now b) ≡ true ⌝ }
-    requires { ⌜ place < length (x.stores (now b)) ⌝ }
-    ensures { λ r. ⌜ r ≡ getD (x.storeNumbers (now (b .entry))) place 0 ⌝ }
-{
-    number_at(b, STORE_HEAD, place)
-}
-
-// The pending store at a place, the oldest at 0.
-pub fn store_at(b: &[u32], place: usize) -> Store
-    requires { ⌜ length (now b) ≡ 256 ⌝ }
-    requires { ⌜ x.linked (now b) ≡ true ⌝ }
-    requires { ⌜ place < length (x.stores (now b)) ⌝ }
-    ensures { λ r. ⌜ r ≡ getD (x.stores (now (b .entry))) place x.noStore ⌝ }
-{
-    let n = number_at(b, STORE_HEAD, place);
-    let i = RECORDS + RECORD_WORDS * (n as usize);
-    Store {
-        address: b[i + 1],
-        value: b[i + 2],
-        width: b[i + 3],
-    }
-}
-
-// The walk at a place in chain order.
-pub fn walk_at(b: &[u32], place: usize) -> Walk
-    requires { ⌜ length (now b) ≡ 256 ⌝ }
-    requires { ⌜ x.linked (now b) ≡ true ⌝ }
-    requires { ⌜ place < length (x.walks (now b)) ⌝ }
-    ensures { λ r. ⌜ r ≡ getD (x.walks (now (b .entry))) place x.noWalk ⌝ }
-{
-    let n = number_at(b, WALK_HEAD, place);
-    let i = RECORDS + RECORD_WORDS * (n as usize);
-    Walk {
-        first: b[i + 1],
-        second: b[i + 2],
-    }
-}
-
 // How many stores are pending.
 pub fn count_stores(b: &[u32]) -> usize
     requires { ⌜ length (now b) ≡ 256 ⌝ }

@@ -87,11 +87,6 @@ module _ (sb : List Store) (p : Ports) (m : List ℕ) (a d : ℕ) (low : a < 2 ^
           let q : a + j - s .address ≡ a - s .address + j = omega (arith, served-from .0) in
           ms-hit sb p m (a + j) i (alike j h ∙ e) ∙ ap (λ (k : ℕ). There (byte k (s .value))) q)
 
--- one byte has no hazard
-pub one-byte : {A : Type 0} (sb : List Store) (a : ℕ) → sbhazard sb a 1 ≡ true → A
-unfolding sbhazard some
-one-byte sb a e = absurd (false≢true e)
-
 -- ---- what one pass found, and the load
 
 all-at : {A : Type 0} (q : A → Bool) (l : List A) (i : ℕ) (e : A) → all q l ≡ true → i < length l → q (getD l i e) ≡ true

@@ -124,20 +124,6 @@ pub fn hazard(b: &[u32], a: u32, d: u32) -> bool
     }
 }
 
-// The newest pending store that writes a byte.
-pub fn newest(b: &[u32], a: u32) -> Hit
-    requires { ⌜ length (now b) ≡ 256 ⌝ }
-    requires { ⌜ linked (now b) ≡ true ⌝ }
-    ensures { λ r. ⌜ r ≡ x.maxsbhit (stores (now (b .entry))) a ⌝ }
-{
-    let f = find(b, a, 1);
-    match f {
-        Found::Nothing => Hit::Miss,
-        Found::One(place, _) => Hit::At(place),
-        Found::Mixed => Hit::Miss,
-    }
-}
-
 // The d bytes of a word from byte k on.
 fn part(v: u32, k: u32, d: u32) -> u32
     requires { ⌜ k < 4 ⌝ }

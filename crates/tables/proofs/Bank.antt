@@ -27,17 +27,6 @@ module _ (b : List ℕ) (long : length b ≡ 256) where
   unfolding registersOf
   registers-zero n e = getD-take 32 b 0 0 (omega arith) ∙ words-facts b (words-of n b e) .zero-register
 
-  -- the block with the registers that it has
-  pub with-own : withRegisters b (registersOf b) ≡ b
-  unfolding withRegisters registersOf
-  with-own =
-      ap (λ (l : List ℕ). take 32 b ++ (take 32 (drop 32 b) ++ l)) three
-      ∙ ap (λ (l : List ℕ). take 32 b ++ l) (take-append-drop 32 (drop 32 b))
-      ∙ take-append-drop 32 b
-    where
-      three : getD b 64 0 ∷ getD b 65 0 ∷ getD b 66 0 ∷ drop 67 b ≡ drop 32 (drop 32 b)
-      three = sym (drop-drop 32 32 b ∙ rw (drop-cons b 64 0 (omega arith), drop-cons b 65 0 (omega arith), drop-cons b 66 0 (omega arith)))
-
 module _ (b : List ℕ) (r : Registers) (long : length b ≡ 256) (g : length (r .gpr) ≡ 32) (s : length (r .spr) ≡ 32) where
   abbrev tail : List ℕ
   tail = r .pc ∷ r .hi ∷ r .lo ∷ drop 67 b

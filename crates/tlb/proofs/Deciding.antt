@@ -18,7 +18,7 @@ use Rattle.tlb.specs.declared.Entry.the-variants.{Word, Missing}
 use Rattle.tlb.specs.declared.Decision.{Decision}
 use Rattle.tlb.specs.declared.Decision.the-variants.{Refused, Adds, Marks}
 use Rattle.tlb.specs.Walks.{complete, walkAsid, pteA, pteP, ptea, wext, wextFault, winit, set-d}
-use Rattle.tlb.specs.Steps.{tlbCreate, tlbExtend, tlbAccessed, extendable, onExtend, onAccessed, blockAfter, memoryAfter, inMemory}
+use Rattle.tlb.specs.Steps.{tlbCreate, tlbExtend, tlbAccessed, extendable, onExtend, onAccessed}
 
 -- bit 0 of a word
 pub low-bit : (n : ℕ) → eqb (n % 2) 1 ≡ isSet n 0
@@ -86,21 +86,3 @@ module _ (w : Walk) {e : Entry} (p : e ≡ Missing) where
   pub accessed-missing : Refused 7 ≡ onAccessed w e
   unfolding onAccessed
   accessed-missing = rw p
-
--- what is done, by the decision
-module _ (b m : List ℕ) {d : Decision} where
-  pub refused-all : {n : ℕ} → d ≡ Refused n → (b ≡ blockAfter d b) × (m ≡ memoryAfter d m)
-  unfolding blockAfter memoryAfter
-  refused-all p = (rw p, rw p)
-
-  pub adds-all : {w : Walk} → d ≡ Adds w → (addWalk b w ≡ blockAfter d b) × (m ≡ memoryAfter d m)
-  unfolding blockAfter memoryAfter
-  adds-all p = (rw p, rw p)
-
-  pub marks-all : {a e : ℕ} → d ≡ Marks a e → (b ≡ blockAfter d b) × (put 4 m a e ≡ memoryAfter d m)
-  unfolding blockAfter memoryAfter
-  marks-all p = (rw p, rw p)
-
-pub marks-fit : (m : List ℕ) {d : Decision} {a e : ℕ} → d ≡ Marks a e → inMemory d m ≡ true → a + 4 ≤ length m
-unfolding inMemory
-marks-fit m {d} {a} p h = leb-true (a + 4) (length m) (rw p at h)

@@ -20,7 +20,7 @@ use Rattle.tlb.specs.declared.Entry.the-variants.{Word, Missing}
 use Rattle.tlb.specs.declared.Decision.{Decision}
 use Rattle.tlb.specs.declared.Decision.the-variants.{Refused, Adds, Marks}
 use Rattle.tlb.specs.Walks.{walkAsid, pteA, pteP, ptea, entryAt, complete, winit, wext, wextFault, set-d}
-use Rattle.tlb.specs.Steps.{tlbCreate, extendable, onExtend, tlbExtend, onAccessed, tlbAccessed, memoryAfter, inMemory}
+use Rattle.tlb.specs.Steps.{tlbCreate, extendable, onExtend, tlbExtend, onAccessed, tlbAccessed}
 use Rattle.tlb.proofs.Fields.{same-walk, winit-sound, wext-sound}
 use Rattle.tlb.proofs.Entries.{mark-memory}
 
@@ -150,63 +150,3 @@ module _ (r : Bool) (a : ℕ) (tlb : List Walk) (w : Walk) (g : (r && extendable
   pub is-incomplete : complete w ≡ false
   unfolding extendable
   is-incomplete = not-true (complete w) (and-left (not (complete w)) _ (and-right (among w tlb) _ (and-right r _ g)))
-
-  pub is-current : walkAsid w ≡ a
-  unfolding extendable
-  is-current = eqb-true (walkAsid w) a (and-right (not (complete w)) _ (and-right (among w tlb) _ (and-right r _ g)))
-
-pub create-sound : (u r : Bool) (o a v : ℕ) {x : Walk} → o < 2 ^ 20 → a < 2 ^ 6 → tlbCreate u r o a v ≡ Adds x → walkSound x ≡ true
-create-sound u r o a v p q e = subst (λ (x : Walk). walkSound x ≡ true) (sym (create-adds u r o a v e .1)) (winit-sound v o a p q)
-
-pub extend-sound : (r : Bool) (a : ℕ) (tlb : List Walk) (w : Walk) (m : List ℕ) {x : Walk} → all walkSound tlb ≡ true → Bytes m → tlbExtend r a tlb w (entryAt m (ptea w)) ≡ Adds x → walkSound x ≡ true
-extend-sound r a tlb w m s h e =
-    let E = extend-adds r a tlb w (entryAt m (ptea w)) e in
-    subst (λ (x : Walk). walkSound x ≡ true) (sym (E .walk))
-    (wext-sound w (E .word) (held-sound w tlb (is-held r a tlb w (E .guards)) s) (entry-lt m (ptea w) h (E .entry)))
-
--- ---- what is written
-
-module _ (u : Bool) (a : ℕ) (tlb : List Walk) (w : Walk) (m : List ℕ) {at v : ℕ} (e : tlbAccessed u a tlb w (entryAt m (ptea w)) ≡ Marks at v) where
-  shown : Marked u a tlb w (entryAt m (ptea w)) at v
-  shown = accessed-marks u a tlb w (entryAt m (ptea w)) e
-
-  -- the entry lies in memory
-  pub marks-in : at + 4 ≤ length m
-  marks-in = omega (arith, shown .address, entry-word m (ptea w) (shown .entry) .1)
-
-  -- memory changes in the lowest byte of the entry and there in its accessed bit alone
-  pub marks-memory : Bytes m → memoryAfter (Marks at v) m ≡ set m (ptea w) (set-d (getD m (ptea w) 0))
-  unfolding memoryAfter
-  marks-memory h =
-      ap₂ (put 4 m) (shown .address) (shown .value ∙ ap set-d (entry-word m (ptea w) (shown .entry) .0)) ∙ mark-memory m (ptea w) h
-
--- what was decided on a memory can be done on it
-pub accessed-fits : (u : Bool) (a : ℕ) (tlb : List Walk) (w : Walk) (m : List ℕ) → inMemory (tlbAccessed u a tlb w (entryAt m (ptea w))) m ≡ true
-unfolding inMemory
-accessed-fits u a tlb w m = go (tlbAccessed u a tlb w (entryAt m (ptea w))) refl
-  where
-    go : (d : Decision) → tlbAccessed u a tlb w (entryAt m (ptea w)) ≡ d → inMemory d m ≡ true
-    go (Refused n) e = refl
-    go (Adds x) e = refl
-    go (Marks at v) e = le-leb (at + 4) (length m) (marks-in u a tlb w m e)
-
-pub create-fits : (u r : Bool) (o a v : ℕ) (m : List ℕ) → inMemory (tlbCreate u r o a v) m ≡ true
-unfolding tlbCreate inMemory
-create-fits u r o a v m = go (u && r)
-  where
-    go : (t : Bool) → inMemory (if t then Adds (winit v o a) else Refused 6) m ≡ true
-    go true = refl
-    go false = refl
-
-pub extend-fits : (r : Bool) (a : ℕ) (tlb : List Walk) (w : Walk) (e : Entry) (m : List ℕ) → inMemory (tlbExtend r a tlb w e) m ≡ true
-unfolding tlbExtend onExtend inMemory
-extend-fits r a tlb w e m = go (r && extendable a tlb w) e
-  where
-    added : (v : ℕ) (t : Bool) → inMemory (if t then Adds (wext w v) else Refused 6) m ≡ true
-    added v true = refl
-    added v false = refl
-
-    go : (t : Bool) (e : Entry) → inMemory (if t then onExtend w e else Refused 6) m ≡ true
-    go false e = refl
-    go true (Word v) = added v (pteA v && not (wextFault v 0))
-    go true Missing = refl

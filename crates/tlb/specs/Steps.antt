@@ -69,22 +69,3 @@ extendOn b m w = tlbExtend (runs b) (asidOf b) (walks b) w (pte m w)
 
 abbrev pub accessedOn : List ℕ → List ℕ → Walk → Decision
 accessedOn b m w = tlbAccessed (userMode b) (asidOf b) (walks b) w (pte m w)
-
--- ---- what is done
-
--- a walk is added to the block; an entry written to memory leaves the block, and every walk in it, as it was
-unfoldable pub blockAfter : Decision → List ℕ → List ℕ
-blockAfter (Refused n) b = b
-blockAfter (Adds w) b = addWalk b w
-blockAfter (Marks a e) b = b
-
-unfoldable pub memoryAfter : Decision → List ℕ → List ℕ
-memoryAfter (Refused n) m = m
-memoryAfter (Adds w) m = m
-memoryAfter (Marks a e) m = put 4 m a e
-
--- the entry that is written lies in memory
-unfoldable pub inMemory : Decision → List ℕ → Bool
-inMemory (Refused n) m = true
-inMemory (Adds w) m = true
-inMemory (Marks a e) m = leb (a + 4) (length m)

@@ -327,22 +327,3 @@ pub fn accessed(b: &[u32], m: &[u8], w: Walk) -> Decision
     }
     Decision::Refused(6)
 }
-
-// What was decided is done.
-pub fn commit(b: &mut [u32], m: &mut [u8], d: Decision)
-    requires { ⌜ length (now b) ≡ 256 ⌝ }
-    requires { ⌜ linked (now b) ≡ true ⌝ }
-    requires { ⌜ y.inMemory d (now m) ≡ true ⌝ }
-    ensures { λ _. ⌜ now (b .exit) ≡ y.blockAfter d (now (b .entry)) ⌝ }
-    ensures { λ _. ⌜ now (m .exit) ≡ y.memoryAfter d (now (m .entry)) ⌝ }
-{
-    match d {
-        Decision::Refused(_) => {}
-        Decision::Adds(w) => {
-            records::add_walk(b, w);
-        }
-        Decision::Marks(a, e) => {
-            word::write_word(m, a as usize, e);
-        }
-    }
-}
