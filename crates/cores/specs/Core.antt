@@ -134,7 +134,7 @@ onStore v i w ca s there =
     else if not (v .free) then refused 10
     else finished i w 0 ca (vectorOf (v .eev)) (Put s) WalkChange.Nothing Write.Nothing
 
--- rd receives the old word; rt is written where rd was equal to it
+-- definition 5, the access with a compare value: rd receives the old word; rt is written where rd was equal to it
 abbrev pub exchanged : Registers → ℕ → ℕ → ℕ → Write
 exchanged c w x a = if eqb x (gprAt c (rd w)) then Memory a 4 (gprAt c (rt w)) else Write.Nothing
 

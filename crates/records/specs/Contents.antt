@@ -9,7 +9,7 @@ use Rattle.records.specs.declared.Store.{Store}
 use Rattle.records.specs.declared.Walk.{Walk}
 use Rattle.records.specs.Records.{all, linked, stores, walks, differing, levelOf}
 
--- a byte of a local APIC's ports, and of the I/O APIC's
+-- definition 71: a byte of a local APIC's ports; definition 73: of the I/O APIC's
 abbrev pub localPort : ℕ → Bool
 localPort a = leb localPorts a && ltb a (localPorts + localPortBytes)
 

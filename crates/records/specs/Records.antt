@@ -171,7 +171,7 @@ pageKey first = first / 64
 abbrev pub levelOf : ℕ → ℕ
 levelOf first = first / 8 % 4
 
--- which walks go: all; those of a page and address space; those and the incomplete ones
+-- definition 20, which walks a flush takes: all; those of a page and address space; those and the incomplete ones
 abbrev pub goes : Flush → ℕ → Bool
 goes All first = true
 goes (Page p) first = eqb (pageKey first) p

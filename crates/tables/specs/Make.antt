@@ -10,7 +10,7 @@ use Rattle.tables.specs.declared.make.Made.{Made}
 use Rattle.tables.specs.declared.make.Made.the-variants.{Done, Cores, Memory, Length}
 use Rattle.tables.specs.Sound.{upTo}
 
--- only core 0, the boot-strap processor, is running
+-- 12.1, second clause: only core 0, the boot-strap processor, is running
 abbrev pub madeRunning : ℕ → ℕ
 madeRunning zero = 1
 madeRunning (suc k) = 0
@@ -20,7 +20,8 @@ unfoldable pub chained : ℕ → List ℕ → List ℕ
 chained zero b = b
 chained (suc r) b = set (chained r b) (at.recordAt (suc r)) (suc (suc r))
 
--- core k's block: zero but for running, the APIC's ID in port byte 3, and all 31 records free in rising order
+-- core k's block: zero but for running, the APIC's ID in port byte 3, and all 31 records free in rising order. So by 12.1: pc 0, system mode,
+-- no pending store, no walk, IRR, ISR and ICR zero, and the ID.
 unfoldable pub madeBlock : ℕ → List ℕ
 madeBlock k =
     chained 30 (set (set (set (replicate at.blockWords 0) at.running (madeRunning k)) at.freeHead 1) at.ports (k * 2 ^ 24))
@@ -29,7 +30,7 @@ unfoldable pub madeBlocks : ℕ → List ℕ
 madeBlocks zero = []
 madeBlocks (suc k) = madeBlocks k ++ madeBlock k
 
--- tables of n cores and p pages
+-- tables of n cores and p pages; the I/O APIC's words are zero, so that by 12.1 no redirect entry has an interrupt to deliver
 unfoldable pub made : ℕ → ℕ → List ℕ
 made n p = n ∷ p ∷ replicate 30 0 ++ madeBlocks n
 
