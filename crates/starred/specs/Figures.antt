@@ -28,9 +28,9 @@ pub record Figure : Type 0 where
 abbrev figure : ℕ → ℕ → Figure
 figure x y = record { found = x; printed = y }
 
--- a core at a pc, with general registers 1 and 2
-abbrev core : ℕ → ℕ → ℕ → Registers
-core at x y = record { gpr = set (set (replicate 32 0) 1 x) 2 y; spr = replicate 32 0; pc = at; hi = 0; lo = 0 }
+-- a core at a pc, with general registers 1 and 2, and HI and LO both h. Register 3 holds 7, so that an instruction which leaves it shows.
+abbrev core : ℕ → ℕ → ℕ → ℕ → Registers
+core at x y h = record { gpr = set (set (set (replicate 32 0) 1 x) 2 y) 3 7; spr = replicate 32 0; pc = at; hi = h; lo = h }
 
 -- an instruction word: opcode, rs, rt, and the lower half
 abbrev wordOf : ℕ → ℕ → ℕ → ℕ → ℕ
@@ -38,11 +38,11 @@ wordOf o s t low = o * 2 ^ 26 + s * 2 ^ 21 + t * 2 ^ 16 + low
 
 -- general register 3 after an instruction
 abbrev result : ℕ → ℕ
-result w = getD (deltaInstr (core 0 0 0) w 0 .gpr) 3 0
+result w = getD (deltaInstr (core 0 0 0 0) w 0 .gpr) 3 0
 
--- the core after a multiplication of x by y
-abbrev multiplied : ℕ → ℕ → ℕ → Registers
-multiplied x y w = deltaInstr (core 0 x y) w 0
+-- the core after a multiplication of x by y, with HI and LO both h before it
+abbrev multiplied : ℕ → ℕ → ℕ → ℕ → Registers
+multiplied h x y w = deltaInstr (core 0 x y h) w 0
 
 abbrev pub figures : List Figure
 figures =
@@ -60,18 +60,18 @@ figures =
     figure (result (wordOf 0b001011 0 3 0xffff)) 1 ∷
     figure (result (wordOf 0b001010 0 3 0xffff)) 0 ∷
     -- FFFFFFFF by FFFFFFFF: mult HI 0, LO 1
-    figure (multiplied 0xffffffff 0xffffffff (wordOf 0 1 2 0b011000) .hi) 0 ∷
-    figure (multiplied 0xffffffff 0xffffffff (wordOf 0 1 2 0b011000) .lo) 1 ∷
+    figure (multiplied 7 0xffffffff 0xffffffff (wordOf 0 1 2 0b011000) .hi) 0 ∷
+    figure (multiplied 7 0xffffffff 0xffffffff (wordOf 0 1 2 0b011000) .lo) 1 ∷
     -- multu HI FFFFFFFE, LO 1
-    figure (multiplied 0xffffffff 0xffffffff (wordOf 0 1 2 0b011001) .hi) 0xfffffffe ∷
-    figure (multiplied 0xffffffff 0xffffffff (wordOf 0 1 2 0b011001) .lo) 1 ∷
+    figure (multiplied 7 0xffffffff 0xffffffff (wordOf 0 1 2 0b011001) .hi) 0xfffffffe ∷
+    figure (multiplied 7 0xffffffff 0xffffffff (wordOf 0 1 2 0b011001) .lo) 1 ∷
     -- msub of 1 by 1 from 0: both FFFFFFFF
-    figure (multiplied 1 1 (wordOf 0b011100 1 2 0b000100) .hi) 0xffffffff ∷
-    figure (multiplied 1 1 (wordOf 0b011100 1 2 0b000100) .lo) 0xffffffff ∷
+    figure (multiplied 0 1 1 (wordOf 0b011100 1 2 0b000100) .hi) 0xffffffff ∷
+    figure (multiplied 0 1 1 (wordOf 0b011100 1 2 0b000100) .lo) 0xffffffff ∷
     -- j with index 1 at pc 0FFFFFFC goes to 10000004
-    figure (deltaInstr (core 0x0ffffffc 0 0) (wordOf 0b000010 0 0 1) 0 .pc) 0x10000004 ∷
+    figure (deltaInstr (core 0x0ffffffc 0 0 0) (wordOf 0b000010 0 0 1) 0 .pc) 0x10000004 ∷
     -- beq taken, immediate FFFF, at 100 goes to FC
-    figure (deltaInstr (core 0x100 0 0) (wordOf 0b000100 0 0 0xffff) 0 .pc) 0xfc ∷
+    figure (deltaInstr (core 0x100 0 0 0) (wordOf 0b000100 0 0 0xffff) 0 .pc) 0xfc ∷
     -- word 11223344 stored at 100, then byte AA at 101: byte 101 reads AA, byte 100 reads 44
     figure (valueOf (pendingLoad 0x101 1)) 0xaa ∷
     figure (valueOf (pendingLoad 0x100 1)) 0x44 ∷
