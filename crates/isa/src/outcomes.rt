@@ -1,4 +1,4 @@
-// What an instruction makes of the few registers that it reads. A caller copies no others.
+// What an instruction makes of the few registers that it reads: how execute, and an interrupt that completes its instruction, are built.
 use decode::Instruction;
 use decode::Jump;
 use decode::Load;

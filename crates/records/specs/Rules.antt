@@ -1,4 +1,5 @@
--- What the check asks of each chain and of each record on it: rules of Records and Contents.
+-- What the check asks of each chain and of each record on it: rules of Records and Contents. It serves contracts inside alone: proofs/Contents ties
+-- `ruled` to `soundRecords`.
 -- Assumes nothing.
 use Prim.Native.Nat.{ℕ}
 use mathlib.Core.Bool.{Bool, _&&_}

@@ -1,4 +1,5 @@
--- What the count of a chain's records gives: whether they are few and all fit, and then how often each is there.
+-- What the count of a chain's records gives: whether they are few and all fit, and then how often each is there. It is the contract of one function
+-- of the check, and nothing outside speaks of it.
 -- Assumes nothing.
 use mathlib.Core.Path.{_≡_}
 use Prim.Native.Nat.{ℕ, _+_, _<_}

@@ -1,4 +1,5 @@
--- One pass over the pending stores, for all bytes of an access at once.
+-- One pass over the pending stores, for all bytes of an access at once. It serves contracts inside alone: `pass-found` of proofs/Pass ties it to
+-- definitions 59 and 61 in Buffer.
 -- Assumes nothing.
 use Prim.Native.Nat.{ℕ, _-_}
 use mathlib.Core.List.{List}
