@@ -19,8 +19,8 @@ use Rattle.apic.specs.declared.local.Kind.{Kind}
 use Rattle.apic.specs.declared.local.Kind.the-variants.{Fixed, Init, Startup}
 use Rattle.apic.specs.declared.active.Ipi.{Ipi}
 use Rattle.apic.specs.Vectors.{bitAt, withBit, withVector, lowest, marked, isVector}
-use Rattle.apic.specs.LocalApic.{portAt, icr, eoi, isr, irr, idOf, ended, written, startup, init, received, jisr, rfe}
-use Rattle.apic.specs.Active.{idle, aimed, reached, initCore, startCore}
+use Rattle.apic.specs.LocalApic.{portAt, icr, eoi, isr, irr, idOf, eoiWritten, portWritten, startup, init, received, onJisr, onRfe}
+use Rattle.apic.specs.Active.{idle, aimed, receivedBy, initCore, startCore}
 use Rattle.apic.proofs.Bits.{put-lt}
 use Rattle.apic.proofs.Least.{least-vector}
 
@@ -96,15 +96,15 @@ pub kept-marked : (b c : List ℕ) (p q x : ℕ) → 72 ≤ p → p + 8 ≤ 112 
 kept-marked b c p q x l h hx = marked-case b p (lowest c q) x l h (least-vector (λ (k : ℕ). bitAt c q k)) hx
 
 module _ (b : List ℕ) where
-  pub kept-ended : (v : ℕ) → v < 2 ^ 32 → Kept Passive b (ended b v)
-  unfolding ended
+  pub kept-ended : (v : ℕ) → v < 2 ^ 32 → Kept Passive b (eoiWritten b v)
+  unfolding eoiWritten
   kept-ended v hv =
       kept-then Passive (port b eoi v (omega arith) (omega arith) (λ w. hv))
       (kept-then Passive (kept-marked (set b eoi v) b isr isr 0 (omega arith) (omega arith) (omega arith))
       (kept-marked (marked (set b eoi v) isr (lowest b isr) 0) b eoipending isr 1 (omega arith) (omega arith) (omega arith)))
 
-  pub kept-written : (a v : ℕ) → a < 128 → v < 2 ^ 32 → Kept Passive b (written b a v)
-  unfolding written
+  pub kept-written : (a v : ℕ) → a < 128 → v < 2 ^ 32 → Kept Passive b (portWritten b a v)
+  unfolding portWritten
   kept-written a v ha hv =
       kept-if Passive (eqb a 12) (kept-ended v hv) (port b (portAt a) v (omega arith) (omega arith) (λ w. hv))
 
@@ -129,14 +129,14 @@ module _ (b : List ℕ) where
   kept-received Init v hv = kept-init
   kept-received Startup v hv = kept-startup v hv
 
-  pub kept-jisr : Kept Passive b (jisr b)
-  unfolding jisr
+  pub kept-jisr : Kept Passive b (onJisr b)
+  unfolding onJisr
   kept-jisr =
       kept-then Passive (kept-marked b b irr irr 0 (omega arith) (omega arith) (omega arith))
       (kept-marked (marked b irr (lowest b irr) 0) b isr irr 1 (omega arith) (omega arith) (omega arith))
 
-  pub kept-rfe : Kept Passive b (rfe b)
-  unfolding rfe
+  pub kept-rfe : Kept Passive b (onRfe b)
+  unfolding onRfe
   kept-rfe = kept-marked b b isr isr 0 (omega arith) (omega arith) (omega arith)
 
   pub kept-idle : Kept Passive b (idle b)
@@ -144,8 +144,8 @@ module _ (b : List ℕ) where
   kept-idle =
       port b icr (withBit (getD b icr 0) 12 0) (omega arith) (omega arith) (λ w. put-lt (getD b icr 0) 12 0 (w icr) (omega arith) (omega arith))
 
-  pub kept-reached : (m : Ipi) (own : Bool) → m .vect < 256 → Kept Passive b (reached m own b)
-  unfolding reached
+  pub kept-reached : (m : Ipi) (own : Bool) → m .vect < 256 → Kept Passive b (receivedBy m own b)
+  unfolding receivedBy
   kept-reached m own h =
       kept-if Passive (aimed (m .target) own (eqb (idOf b) (m .dest))) (kept-received (m .kind) (m .vect) h) (kept-all Passive b)
 

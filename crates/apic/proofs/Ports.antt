@@ -12,7 +12,7 @@ use lib.Dec.{ltb, leb}
 use borrow.Author.Tests.{ne-eqb, lt-ltb, le-ltb, le-leb, lt-leb}
 use Rattle.word.specs.Word.{if_then_else_}
 use Rattle.word.proofs.Laws.{side}
-use Rattle.apic.specs.LocalApic.{portAt, portByte, written}
+use Rattle.apic.specs.LocalApic.{portAt, portByte, portWritten}
 
 module _ (b : List ℕ) (a v : ℕ) (long : length b ≡ 256) (ha : a < 128) (whole : a % 4 ≡ 0) (x : ℕ) where
   abbrev after : List ℕ
@@ -30,8 +30,8 @@ module _ (b : List ℕ) (a v : ℕ) (long : length b ≡ 256) (ha : a < 128) (wh
       ap (λ (w : ℕ). w / 2 ^ (8 * (x % 4)) % 2 ^ 8) (getD-set-other b (portAt a) (portAt x) v 0 (λ e. n (omega arith)))
 
   pub written-byte : (a ≡ 12 → ⊥) →
-      portByte (written b a v) x ≡ (if leb a x && ltb x (a + 4) then v / 2 ^ (8 * (x - a)) % 2 ^ 8 else portByte b x)
-  unfolding written
+      portByte (portWritten b a v) x ≡ (if leb a x && ltb x (a + 4) then v / 2 ^ (8 * (x - a)) % 2 ^ 8 else portByte b x)
+  unfolding portWritten
   written-byte n =
       rw (ne-eqb a 12 n)
       (⊎-elim

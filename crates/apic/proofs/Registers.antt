@@ -15,7 +15,7 @@ use Rattle.layout.specs.Layout.{eoipending}
 use Rattle.apic.specs.declared.vectors.Found.{Found}
 use Rattle.apic.specs.declared.vectors.Found.the-variants.{Vector, None}
 use Rattle.apic.specs.Vectors.{withBit, bitAt, withVector, lowest, marked, isVector}
-use Rattle.apic.specs.LocalApic.{eoi, isr, irr, ended, fixed, jisr, rfe}
+use Rattle.apic.specs.LocalApic.{eoi, isr, irr, eoiWritten, fixed, onJisr, onRfe}
 use Rattle.apic.proofs.Bits.{bit-same, bit-other}
 use Rattle.apic.proofs.Least.{least-vector}
 
@@ -99,43 +99,43 @@ module _ (b : List ℕ) (long : length b ≡ 256) (j : ℕ) (hj : j < 256) where
   pub fixed-irr : (v : ℕ) → v < 256 → bitAt (fixed b v) irr j ≡ (if eqb j v then 1 else bitAt b irr j)
   fixed-irr v hv = marked-go b irr v 1 j (omega arith) hv (omega arith) (eqb j v) refl
 
-  pub jisr-irr : bitAt (jisr b) irr j ≡ (if isAt (lowest b irr) j then 0 else bitAt b irr j)
-  unfolding jisr
+  pub jisr-irr : bitAt (onJisr b) irr j ≡ (if isAt (lowest b irr) j then 0 else bitAt b irr j)
+  unfolding onJisr
   jisr-irr =
       marked-apart (marked b irr (lowest b irr) 0) isr irr (lowest b irr) 1 j (inl (omega arith)) (found irr) hj
       ∙ marked-here b irr (lowest b irr) 0 j (omega arith) (found irr) (omega arith)
 
-  pub jisr-isr : bitAt (jisr b) isr j ≡ (if isAt (lowest b irr) j then 1 else bitAt b isr j)
-  unfolding jisr
+  pub jisr-isr : bitAt (onJisr b) isr j ≡ (if isAt (lowest b irr) j then 1 else bitAt b isr j)
+  unfolding onJisr
   jisr-isr =
       marked-here (marked b irr (lowest b irr) 0) isr (lowest b irr) 1 j (fits irr (lowest b irr) 0 isr (omega arith)) (found irr) (omega arith)
       ∙ ap (λ (x : ℕ). if isAt (lowest b irr) j then 1 else x) (marked-apart b irr isr (lowest b irr) 0 j (inr (omega arith)) (found irr) hj)
 
-  pub rfe-isr : bitAt (rfe b) isr j ≡ (if isAt (lowest b isr) j then 0 else bitAt b isr j)
-  unfolding rfe
+  pub rfe-isr : bitAt (onRfe b) isr j ≡ (if isAt (lowest b isr) j then 0 else bitAt b isr j)
+  unfolding onRfe
   rfe-isr = marked-here b isr (lowest b isr) 0 j (omega arith) (found isr) (omega arith)
 
   module _ (v : ℕ) where
     abbrev stored : List ℕ
     stored = set b eoi v
 
-    pub ended-isr : bitAt (ended b v) isr j ≡ (if isAt (lowest b isr) j then 0 else bitAt b isr j)
-    unfolding ended
+    pub ended-isr : bitAt (eoiWritten b v) isr j ≡ (if isAt (lowest b isr) j then 0 else bitAt b isr j)
+    unfolding eoiWritten
     ended-isr =
         marked-apart (marked stored isr (lowest b isr) 0) eoipending isr (lowest b isr) 1 j (inr (omega arith)) (found isr) hj
         ∙ marked-here stored isr (lowest b isr) 0 j (omega (arith, length-set b eoi v)) (found isr) (omega arith)
         ∙ ap (λ (x : ℕ). if isAt (lowest b isr) j then 0 else x) (set-apart isr eoi v (inl (omega arith)))
 
-    pub ended-eoipending : bitAt (ended b v) eoipending j ≡ (if isAt (lowest b isr) j then 1 else bitAt b eoipending j)
-    unfolding ended
+    pub ended-eoipending : bitAt (eoiWritten b v) eoipending j ≡ (if isAt (lowest b isr) j then 1 else bitAt b eoipending j)
+    unfolding eoiWritten
     ended-eoipending =
         marked-here (marked stored isr (lowest b isr) 0) eoipending (lowest b isr) 1 j (omega (arith, marked-long stored isr (lowest b isr) 0, length-set b eoi v)) (found isr) (omega arith)
         ∙ ap (λ (x : ℕ). if isAt (lowest b isr) j then 1 else x)
         (marked-apart stored isr eoipending (lowest b isr) 0 j (inl (omega arith)) (found isr) hj
         ∙ set-apart eoipending eoi v (inl (omega arith)))
 
-    pub ended-irr : bitAt (ended b v) irr j ≡ bitAt b irr j
-    unfolding ended
+    pub ended-irr : bitAt (eoiWritten b v) irr j ≡ bitAt b irr j
+    unfolding eoiWritten
     ended-irr =
         marked-apart (marked stored isr (lowest b isr) 0) eoipending irr (lowest b isr) 1 j (inr (omega arith)) (found isr) hj
         ∙ marked-apart stored isr irr (lowest b isr) 0 j (inl (omega arith)) (found isr) hj

@@ -62,8 +62,8 @@ aimed All own same = true
 aimed AllButOwn own same = not own
 
 -- a core's block after the interrupt has gone over the bus
-unfoldable pub reached : Ipi → Bool → List ℕ → List ℕ
-reached m own b = if aimed (m .target) own (eqb (idOf b) (m .dest)) then received b (m .kind) (m .vect) else b
+unfoldable pub receivedBy : Ipi → Bool → List ℕ → List ℕ
+receivedBy m own b = if aimed (m .target) own (eqb (idOf b) (m .dest)) then received b (m .kind) (m .vect) else b
 
 -- ---- apic-sendEOI
 

@@ -3,7 +3,7 @@
 use mathlib.Core.List.{List}
 use Prim.Native.Nat.{ℕ, _+_, _^_}
 use lib.ListN.{getD, set, replicate}
-use Rattle.apic.specs.LocalApic.{isr, written}
+use Rattle.apic.specs.LocalApic.{isr, portWritten}
 
 -- a block with both in service
 abbrev pub inService : List ℕ
@@ -11,4 +11,4 @@ inService = set (replicate 256 0) isr (2 ^ 5 + 2 ^ 9)
 
 -- the word of ISR that holds them, after EOI has been written at its port
 abbrev pub isrAfterEoi : ℕ
-isrAfterEoi = getD (written inService 12 0) isr 0
+isrAfterEoi = getD (portWritten inService 12 0) isr 0

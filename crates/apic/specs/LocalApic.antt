@@ -58,12 +58,12 @@ event b = least (λ (j : ℕ). eev b j) 256 0
 -- ---- 9.2: the passive steps
 
 -- (12, v): a write of EOI
-unfoldable pub ended : List ℕ → ℕ → List ℕ
-ended b v = marked (marked (set b eoi v) isr (lowest b isr) 0) eoipending (lowest b isr) 1
+unfoldable pub eoiWritten : List ℕ → ℕ → List ℕ
+eoiWritten b v = marked (marked (set b eoi v) isr (lowest b isr) 0) eoipending (lowest b isr) 1
 
 -- (a, v): a word written at port byte a, a multiple of four
-unfoldable pub written : List ℕ → ℕ → ℕ → List ℕ
-written b a v = if eqb a 12 then ended b v else set b (portAt a) v
+unfoldable pub portWritten : List ℕ → ℕ → ℕ → List ℕ
+portWritten b a v = if eqb a 12 then eoiWritten b v else set b (portAt a) v
 
 -- (Fixed, vect)
 abbrev pub fixed : List ℕ → ℕ → List ℕ
@@ -82,8 +82,8 @@ received b Fixed v = fixed b v
 received b Init v = init b
 received b Startup v = startup b v
 
-unfoldable pub jisr : List ℕ → List ℕ
-jisr b = marked (marked b irr (lowest b irr) 0) isr (lowest b irr) 1
+unfoldable pub onJisr : List ℕ → List ℕ
+onJisr b = marked (marked b irr (lowest b irr) 0) isr (lowest b irr) 1
 
-unfoldable pub rfe : List ℕ → List ℕ
-rfe b = marked b isr (lowest b isr) 0
+unfoldable pub onRfe : List ℕ → List ℕ
+onRfe b = marked b isr (lowest b isr) 0

@@ -109,9 +109,9 @@ fn aimed(t: Target, own: bool, same: bool) -> bool
 }
 
 // A core's block after an interrupt has gone over the bus.
-pub fn reach(b: &mut [u32], own: bool, m: Ipi)
+pub fn receive(b: &mut [u32], own: bool, m: Ipi)
     requires { ⌜ (length (now b) ≡ 256) × (m .vect < 256) ⌝ }
-    ensures { λ _. ⌜ now (b .exit) ≡ s.reached m own (now (b .entry)) ⌝ }
+    ensures { λ _. ⌜ now (b .exit) ≡ s.receivedBy m own (now (b .entry)) ⌝ }
 {
     let same = local::id(b) == m.dest;
     let t = m.target;

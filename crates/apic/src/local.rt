@@ -53,7 +53,7 @@ pub fn event(b: &[u32]) -> Found
 
 fn end(b: &mut [u32], v: u32)
     requires { ⌜ length (now b) ≡ 256 ⌝ }
-    ensures { λ _. ⌜ now (b .exit) ≡ s.ended (now (b .entry)) v ⌝ }
+    ensures { λ _. ⌜ now (b .exit) ≡ s.eoiWritten (now (b .entry)) v ⌝ }
 {
     let f = vectors::lowest(b, ISR);
     b[EOI] = v;
@@ -64,7 +64,7 @@ fn end(b: &mut [u32], v: u32)
 // A word written at port byte a.
 pub fn write(b: &mut [u32], a: usize, v: u32)
     requires { ⌜ (length (now b) ≡ 256) × (a < 128) ⌝ }
-    ensures { λ _. ⌜ now (b .exit) ≡ s.written (now (b .entry)) a v ⌝ }
+    ensures { λ _. ⌜ now (b .exit) ≡ s.portWritten (now (b .entry)) a v ⌝ }
 {
     if a == 12 {
         end(b, v);
@@ -107,7 +107,7 @@ pub fn receive(b: &mut [u32], k: Kind, v: u32)
 // The core takes an interrupt.
 pub fn jisr(b: &mut [u32])
     requires { ⌜ length (now b) ≡ 256 ⌝ }
-    ensures { λ _. ⌜ now (b .exit) ≡ s.jisr (now (b .entry)) ⌝ }
+    ensures { λ _. ⌜ now (b .exit) ≡ s.onJisr (now (b .entry)) ⌝ }
 {
     let f = vectors::lowest(b, IRR);
     vectors::mark(b, IRR, f, 0);
@@ -117,7 +117,7 @@ pub fn jisr(b: &mut [u32])
 // The core returns from one.
 pub fn rfe(b: &mut [u32])
     requires { ⌜ length (now b) ≡ 256 ⌝ }
-    ensures { λ _. ⌜ now (b .exit) ≡ s.rfe (now (b .entry)) ⌝ }
+    ensures { λ _. ⌜ now (b .exit) ≡ s.onRfe (now (b .entry)) ⌝ }
 {
     let f = vectors::lowest(b, ISR);
     vectors::mark(b, ISR, f, 0);

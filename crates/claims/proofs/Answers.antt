@@ -14,7 +14,7 @@ use Rattle.layout.specs.Blocks.{block}
 use Rattle.decode.specs.Table.{rowOf, decoded}
 use Rattle.decode.specs.Mnemonics.{itype, ill, compi, compr, alu, load, store, cas, mfence, sysc}
 use Rattle.isa.specs.Core.{d, mal}
-use Rattle.isa.specs.Interrupts.{lowest}
+use Rattle.isa.specs.Interrupts.{lowestBit}
 use Rattle.records.specs.Records.{chain, count, each, all, stores, walks, among, differing, linked}
 use Rattle.records.specs.Contents.{soundRecords, storeSound, walkSound}
 use Rattle.tables.specs.Views.{coresOf, registersOf}
@@ -31,7 +31,7 @@ use Rattle.steps.specs.declared.Answer.the-variants.{Done, Refused}
 use Rattle.steps.specs.Form.{stepOf}
 use Rattle.cores.specs.Guards.{anyOf, settle}
 use Rattle.cores.specs.Plans.{finished}
-use Rattle.cores.specs.Core.{performed, onAddress, onData, onAccess, onInstruction, onWord, onFetchAddress, onFetch, fetch, judged, coreStep}
+use Rattle.cores.specs.Core.{performed, onAddress, onData, onAccess, onInstruction, onWord, onFetchAddress, onFetch, fetch, judged, corePlan}
 use Rattle.cores.specs.Buffer.{onOldest}
 use Rattle.cores.specs.Walks.{adding, planned}
 use Rattle.machine.specs.Actions.{answerOf}
@@ -63,7 +63,7 @@ fresh-sound = made-sound 1 1 (omega arith) (omega arith) (omega arith) (omega ar
 
 -- a core's step, whose instruction is a shift of register 0
 pub accepted : step (made 1 1) (page 0) (of 0) .answer ≡ Done
-unfolding stepOf byStep block made madeBlocks madeBlock chained coreStep settle anyOf judged fetch onFetch onFetchAddress onWord onInstruction finished reads page decoded rowOf ill compi compr alu load store cas mfence sysc mal event least someUpTo registersOf lowest
+unfolding stepOf byStep block made madeBlocks madeBlock chained corePlan settle anyOf judged fetch onFetch onFetchAddress onWord onInstruction finished reads page decoded rowOf ill compi compr alu load store cas mfence sysc mal event least someUpTo registersOf lowestBit
 accepted = answers (made 1 1) (page 0) (of 0) 4096 (page-long 0) fresh-sound
 
 -- 4: no words at all
@@ -83,7 +83,7 @@ refused-6 = answers (made 1 1) (page 0) (of 4) 4096 (page-long 0) fresh-sound
 
 -- 7: lw from address 4096, the first beyond memory
 pub refused-7 : step (made 1 1) (page 0x8C011000) (of 0) .answer ≡ Refused 7
-unfolding stepOf byStep block made madeBlocks madeBlock chained coreStep settle anyOf judged fetch onFetch onFetchAddress onWord onInstruction onAccess onData onAddress performed finished reads page decoded rowOf ill compi compr alu load store cas mfence sysc mal d event least someUpTo registersOf lowest stores chain loaded msOf beneath sbhit sbv sbhazard some sbehit newestFrom itype sxt
+unfolding stepOf byStep block made madeBlocks madeBlock chained corePlan settle anyOf judged fetch onFetch onFetchAddress onWord onInstruction onAccess onData onAddress performed finished reads page decoded rowOf ill compi compr alu load store cas mfence sysc mal d event least someUpTo registersOf lowestBit stores chain loaded msOf beneath sbhit sbv sbhazard some sbehit newestFrom itype sxt
 refused-7 = answers (made 1 1) (page 0x8C011000) (of 0) 4096 (page-long 0x8C011000) fresh-sound
 
 -- ---- full chains: records 1 to n
@@ -116,7 +116,7 @@ crowd-sound = refl
 
 -- 8: sw to address 0, a ninth store
 pub refused-8 : step eight (page 0xAC000000) (of 0) .answer ≡ Refused 8
-unfolding stepOf byStep block eight pending chained coreStep settle anyOf judged fetch onFetch onFetchAddress onWord onInstruction onAccess onData onAddress performed finished reads page decoded rowOf ill compi compr alu load store cas mfence sysc mal d event least someUpTo registersOf lowest stores chain itype sxt
+unfolding stepOf byStep block eight pending chained corePlan settle anyOf judged fetch onFetch onFetchAddress onWord onInstruction onAccess onData onAddress performed finished reads page decoded rowOf ill compi compr alu load store cas mfence sysc mal d event least someUpTo registersOf lowestBit stores chain itype sxt
 refused-8 = answers eight (page 0xAC000000) (of 0) 4096 (page-long 0xAC000000) eight-sound
 
 -- 9: a twenty-fourth walk

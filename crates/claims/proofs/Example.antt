@@ -26,14 +26,14 @@ use Rattle.tlb.specs.Steps.{originOf}
 use Rattle.steps.specs.declared.Answer.the-variants.{Done}
 use Rattle.steps.specs.Form.{word}
 use Rattle.steps.specs.Form.{stepOf}
-use Rattle.store_buffer.specs.Leaving.{oldest, target}
+use Rattle.store_buffer.specs.Leaving.{oldest, placeOf}
 use Rattle.cores.specs.declared.BufferChange.the-variants.{Take}
 use Rattle.cores.specs.declared.WalkChange.{WalkChange}
 use Rattle.cores.specs.declared.Write.the-variants.{Memory}
 use Rattle.cores.specs.declared.Plan.{Plan}
 use Rattle.cores.specs.Plans.{done}
 use Rattle.cores.specs.Buffer.{bufferStep, onOldest, leavesTo}
-use Rattle.cores.specs.Commit.{writtenTo, memoryAfter}
+use Rattle.cores.specs.Commit.{writtenTo, memoryByPlan}
 use Rattle.machine.proofs.Locality.{step-law}
 use Rattle.machine.proofs.Locality as plans
 use lib.Seq.{getD-set-same, getD-set-other}
@@ -271,7 +271,7 @@ low-byte m h =
     ∙ getD-set-same m 8192 0x44 0 h
 
 leaving : bufferStep (stores (block little 0)) 12288 ≡ done Take WalkChange.Nothing (Memory 8192 4 0x11223344)
-unfolding onOldest leavesTo target stores chain block little blockOf chained
+unfolding onOldest leavesTo placeOf stores chain block little blockOf chained
 leaving = refl
 
 pub moved : (called (start N) drain .answer ≡ Done) × (getD (called (start N) drain .memory) 8192 0 ≡ 0x44)
@@ -282,5 +282,5 @@ moved =
     let p : bufferStep (stores (block little 0)) (length {A = ℕ} (replicate 12288 0)) ≡ done Take WalkChange.Nothing (Memory 8192 4 0x11223344)
     = ap (bufferStep (stores (block little 0))) (long 12288) ∙ leaving in (
       L .answers ∙ ap (λ (x : Plan). x .answer) p,
-      ap (λ (m : List ℕ). getD m 8192 0) (L .bytes ∙ ap (λ (x : Plan). memoryAfter x (replicate 12288 0)) p) ∙ (unfold writtenTo in low-byte (replicate 12288 0) (omega (arith, long 12288))),
+      ap (λ (m : List ℕ). getD m 8192 0) (L .bytes ∙ ap (λ (x : Plan). memoryByPlan x (replicate 12288 0)) p) ∙ (unfold writtenTo in low-byte (replicate 12288 0) (omega (arith, long 12288))),
     )

@@ -13,16 +13,16 @@ use Rattle.word.proofs.Tests.{same, same-eq, truth, true-false, or-false, and-l
 use Rattle.decode.specs.declared.Instruction.{Instruction}
 use Rattle.decode.specs.declared.Instruction.the-variants.{Load, Store, System}
 use Rattle.decode.specs.declared.Load.the-variants.{Lh, Lw, Lhu}
-use Rattle.decode.specs.declared.Store.the-variants.{Sh, Sw}
+use Rattle.decode.specs.declared.StoreWidth.the-variants.{Sh, Sw}
 use Rattle.decode.specs.declared.System.the-variants.{Cas}
 use Rattle.decode.specs.Table.{table}
-use Rattle.decode.specs.Mnemonics.{among, load, store, cas}
+use Rattle.decode.specs.Mnemonics.{oneOf, load, store, cas}
 use Rattle.decode.proofs.Ranges.{agree}
 use Rattle.isa.specs.declared.registers.Registers.{Registers}
 use Rattle.isa.specs.declared.interrupts.Events.{Events}
 use Rattle.layout.specs.Layout.{sr}
 use Rattle.isa.specs.Core.{d, mal, ea, sprAt}
-use Rattle.isa.specs.Interrupts.{mca, jisr, il, lowest, continues, causesOf, eventsAs}
+use Rattle.isa.specs.Interrupts.{mca, jisr, il, lowestBit, continues, causesOf, eventsAs}
 use Rattle.records.specs.declared.Walk.{Walk}
 use Rattle.store_buffer.specs.System.{sized, aligned}
 use Rattle.isa.proofs.Words.{causes-lt}
@@ -59,7 +59,7 @@ abbrev P₁ : Bool → Bool
 P₁ a = allB (P₂ a)
 
 always : T (allB P₁)
-unfolding lowest
+unfolding lowestBit
 always = tt
 
 misaligned-stops : (io ill pff pfls sysc ovf : Bool) → P io ill pff pfls sysc ovf ≡ true
@@ -100,12 +100,12 @@ cas-width i a l s = eqb-true (d i) 4 (sym (cas-or i) ∙ ap (λ c. c || eqb (d i
 
 -- definition 41 by the width
 mal-rows : (x y : Bool) (i : Instruction) →
-    ((among i (Load Lw ∷ Store Sw ∷ System Cas ∷ []) && x) || (among i (Load Lhu ∷ Load Lh ∷ Store Sh ∷ []) && y)) ≡ ((eqb (d i) 4 && x) || (eqb (d i) 2 && y))
+    ((oneOf i (Load Lw ∷ Store Sw ∷ System Cas ∷ []) && x) || (oneOf i (Load Lhu ∷ Load Lh ∷ Store Sh ∷ []) && y)) ≡ ((eqb (d i) 4 && x) || (eqb (d i) 2 && y))
 unfolding d
-mal-rows true true = agree (λ i. (among i (Load Lw ∷ Store Sw ∷ System Cas ∷ []) && true) || (among i (Load Lhu ∷ Load Lh ∷ Store Sh ∷ []) && true)) (λ i. (eqb (d i) 4 && true) || (eqb (d i) 2 && true)) tt
-mal-rows true false = agree (λ i. (among i (Load Lw ∷ Store Sw ∷ System Cas ∷ []) && true) || (among i (Load Lhu ∷ Load Lh ∷ Store Sh ∷ []) && false)) (λ i. (eqb (d i) 4 && true) || (eqb (d i) 2 && false)) tt
-mal-rows false true = agree (λ i. (among i (Load Lw ∷ Store Sw ∷ System Cas ∷ []) && false) || (among i (Load Lhu ∷ Load Lh ∷ Store Sh ∷ []) && true)) (λ i. (eqb (d i) 4 && false) || (eqb (d i) 2 && true)) tt
-mal-rows false false = agree (λ i. (among i (Load Lw ∷ Store Sw ∷ System Cas ∷ []) && false) || (among i (Load Lhu ∷ Load Lh ∷ Store Sh ∷ []) && false)) (λ i. (eqb (d i) 4 && false) || (eqb (d i) 2 && false)) tt
+mal-rows true true = agree (λ i. (oneOf i (Load Lw ∷ Store Sw ∷ System Cas ∷ []) && true) || (oneOf i (Load Lhu ∷ Load Lh ∷ Store Sh ∷ []) && true)) (λ i. (eqb (d i) 4 && true) || (eqb (d i) 2 && true)) tt
+mal-rows true false = agree (λ i. (oneOf i (Load Lw ∷ Store Sw ∷ System Cas ∷ []) && true) || (oneOf i (Load Lhu ∷ Load Lh ∷ Store Sh ∷ []) && false)) (λ i. (eqb (d i) 4 && true) || (eqb (d i) 2 && false)) tt
+mal-rows false true = agree (λ i. (oneOf i (Load Lw ∷ Store Sw ∷ System Cas ∷ []) && false) || (oneOf i (Load Lhu ∷ Load Lh ∷ Store Sh ∷ []) && true)) (λ i. (eqb (d i) 4 && false) || (eqb (d i) 2 && true)) tt
+mal-rows false false = agree (λ i. (oneOf i (Load Lw ∷ Store Sw ∷ System Cas ∷ []) && false) || (oneOf i (Load Lhu ∷ Load Lh ∷ Store Sh ∷ []) && false)) (λ i. (eqb (d i) 4 && false) || (eqb (d i) 2 && false)) tt
 
 mal-width : (i : Instruction) (x : ℕ) → mal i x ≡ ((eqb (d i) 4 && not (eqb (x % 2 ^ 2) 0)) || (eqb (d i) 2 && not (eqb (x % 2) 0)))
 unfolding mal

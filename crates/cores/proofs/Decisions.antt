@@ -28,8 +28,8 @@ use Rattle.tlb.specs.Walks.{pteA, pteP, ptea, pte, winit, wext, wextFault, set-
 use Rattle.tlb.specs.Steps.{userMode, runs, asidOf, originOf, extendable, tlbCreate, tlbExtend, tlbAccessed, onExtend, onAccessed, createOn, extendOn, accessedOn}
 use Rattle.tlb.proofs.Fields.{winit-sound, wext-sound, winit-first, wext-first, ptea-aligned}
 use Rattle.tlb.proofs.Steps.{entry-word, entry-lt, held-sound, is-held}
-use Rattle.store_buffer.specs.declared.Target.the-variants as to
-use Rattle.store_buffer.specs.Leaving.{wordOnly, target}
+use Rattle.store_buffer.specs.declared.Place.the-variants as to
+use Rattle.store_buffer.specs.Leaving.{wordOnly, placeOf}
 use Rattle.store_buffer.specs.System.{sized, aligned, apicadr, ioapicadr}
 use Rattle.ioapic.specs.IoApic.{writes}
 use Rattle.steps.specs.declared.Answer.{Answer}
@@ -220,8 +220,8 @@ module _ (n : ℕ) (b : List ℕ) (s : Store) (some : 0 < length (stores b)) (fi
       leaves (Memory (s .address) (s .width) (s .value)) refl (and-both (sized (s .width)) _ q e) (and-both (sized (s .width)) _ q r) tt
   leaves-memory false e = refused-doable n b 7
 
-  leaves-doable : Doable n b (leavesTo s (target n s))
-  unfolding target
+  leaves-doable : Doable n b (leavesTo s (placeOf n s))
+  unfolding placeOf
   leaves-doable = go (localPort (s .address)) (ioPort (s .address))
     where
       go : (p q : Bool) → Doable n b (leavesTo s (if p then wordOnly s (to.LocalPort (apicadr (s .address))) else if q then wordOnly s (to.IoPort (ioapicadr (s .address))) else if leb (s .address + s .width) n then to.Memory else to.Beyond))

@@ -25,8 +25,8 @@ use Rattle.records.specs.declared.Flush.the-variants.{All, Incomplete}
 use Rattle.records.specs.Records.{stores}
 use Rattle.records.specs.Contents.{allThere, storeSound}
 use Rattle.records.proofs.Counts.{and-left, and-right, and-both}
-use Rattle.tlb.specs.declared.Verdict.{Verdict}
-use Rattle.tlb.specs.declared.Verdict.the-variants.{Faults, Passes, Undecided}
+use Rattle.tlb.specs.declared.Faulting.{Faulting}
+use Rattle.tlb.specs.declared.Faulting.the-variants.{Faults, Passes, Undecided}
 use Rattle.tlb.specs.Walks.{walkBa, baseAddress, pageKey}
 use Rattle.store_buffer.specs.declared.Read.{Read}
 use Rattle.store_buffer.specs.declared.Read.the-variants.{There, Nowhere}
@@ -49,7 +49,7 @@ use Rattle.cores.specs.declared.Write.the-variants.{Memory}
 use Rattle.cores.specs.declared.Plan.{Plan}
 use Rattle.cores.specs.Guards.{Judged, yield, settle, anyOf, isFailure, isUndecided}
 use Rattle.cores.specs.Plans.{refused, interrupted, changed, finished}
-use Rattle.cores.specs.Core.{View, viewOf, causes, causesWithout, suppressed, stopped, faulted, faultOf, physical, onLoad, onStore, exchanged, onCas, storedFrom, performed, droppedBy, plain, withoutAccess, isAccess, dataRequestOf, onAddress, onData, onAccess, onInstruction, fetchRequestOf, onWord, onFetchAddress, onFetch, fetch, judged, coreStep, isEvent, vectorOf}
+use Rattle.cores.specs.Core.{View, viewOf, causes, causesWithout, suppressed, stopped, faulted, faultOf, physical, onLoad, onStore, exchanged, onCas, storedFrom, performed, droppedBy, plain, withoutAccess, isAccess, dataRequestOf, onAddress, onData, onAccess, onInstruction, fetchRequestOf, onWord, onFetchAddress, onFetch, fetch, judged, corePlan, isEvent, vectorOf}
 use Rattle.cores.specs.Commit.{bufferReady, walksReady, portReady, fits}
 use Rattle.cores.proofs.Accesses.{access-aligned, cas-width}
 use Rattle.cores.proofs.Held.{same-offset}
@@ -186,7 +186,7 @@ module _ (b m : List ℕ) (whole : length m % 4 ≡ 0) (v : View) (held : v .sb 
       go false e = performed-doable i w (causes v i w false) a (cause-lt i w false) p (access-aligned i (v .core) w a (isEvent (v .eev)) false p e q)
 
   module _ (wR : Walk) where
-    data-doable : (i : Instruction) (w : ℕ) (f : Verdict) → isAccess i ≡ true → Doable (length m) b (onData v m wR i w f .effect)
+    data-doable : (i : Instruction) (w : ℕ) (f : Faulting) → isAccess i ≡ true → Doable (length m) b (onData v m wR i w f .effect)
     unfolding onData
     data-doable i w Passes p = address-doable i w (physical v wR (ea i (v .core) w)) p (same-offset (user (v .core)) (walkBa wR) (ea i (v .core) w))
     data-doable i w Faults p = faulted-doable w (causes v i w true) (ea i (v .core) w) (cause-lt i w true)
@@ -212,7 +212,7 @@ module _ (b m : List ℕ) (whole : length m % 4 ≡ 0) (v : View) (held : v .sb 
     word-doable (There w) = instruction-doable (decoded w) w
     word-doable Nowhere = refused-doable (length m) b 7
 
-    fetch-doable : (wI : Walk) (f : Verdict) → Doable (length m) b (onFetch v m wI wR f .effect)
+    fetch-doable : (wI : Walk) (f : Faulting) → Doable (length m) b (onFetch v m wI wR f .effect)
     unfolding onFetch onFetchAddress
     fetch-doable wI Passes = word-doable (reads 4 (memoryByte m) (physical v wI (v .core .pc)))
     fetch-doable wI Faults = faulted-doable 0 (causesWithout v false true) (v .core .pc) (without-lt false true)
@@ -226,8 +226,8 @@ module _ (b m : List ℕ) (whole : length m % 4 ≡ 0) (v : View) (held : v .sb 
         go true = fetch-doable wI (faultOf v m (fetchRequestOf (v .core)) wI)
         go false = nothing-doable 0 (causesWithout v true false) (without-lt true false)
 
-    step-doable : (wI : Walk) → Doable (length m) b (coreStep v m wI wR)
-    unfolding coreStep
+    step-doable : (wI : Walk) → Doable (length m) b (corePlan v m wI wR)
+    unfolding corePlan
     step-doable wI = settled (λ p. Doable (length m) b p) (refused-doable (length m) b) (judged v m wI wR) (judged-doable wI)
 
 -- the event of a block is a vector
@@ -239,5 +239,5 @@ event-lt : (b : List ℕ) → vectorOf (event b) < 2 ^ 32
 unfolding event
 event-lt b = vector-lt (event b) (least-vector (eev b))
 
-pub core-plan : (b m : List ℕ) (select window : ℕ) (wI wR : Walk) → length m % 4 ≡ 0 → MayBeDone (length m) b (coreStep (viewOf b select window) m wI wR)
+pub core-plan : (b m : List ℕ) (select window : ℕ) (wI wR : Walk) → length m % 4 ≡ 0 → MayBeDone (length m) b (corePlan (viewOf b select window) m wI wR)
 core-plan b m select window wI wR q = may-be-done (step-doable b m q (viewOf b select window) refl (event-lt b) wR wI)

@@ -15,8 +15,8 @@ use Rattle.isa.specs.Core.{ea, d}
 use Rattle.isa.specs.Interrupts.{user}
 use Rattle.records.specs.declared.Walk.{Walk}
 use Rattle.records.specs.Records.{among}
-use Rattle.tlb.specs.declared.Verdict.{Verdict}
-use Rattle.tlb.specs.declared.Verdict.the-variants.{Faults, Passes, Undecided}
+use Rattle.tlb.specs.declared.Faulting.{Faulting}
+use Rattle.tlb.specs.declared.Faulting.the-variants.{Faults, Passes, Undecided}
 use Rattle.tlb.specs.Walks.{complete, hit}
 use Rattle.store_buffer.specs.declared.Read.{Read}
 use Rattle.store_buffer.specs.declared.Read.the-variants.{There, Nowhere}
@@ -26,7 +26,7 @@ use Rattle.cores.specs.declared.WalkChange.{WalkChange}
 use Rattle.cores.specs.declared.Plan.{Plan}
 use Rattle.cores.specs.Guards.{Judged, test, yield, ask, settle}
 use Rattle.cores.specs.Plans.{refused}
-use Rattle.cores.specs.Core.{View, causes, causesWithout, suppressed, stopped, faulted, faultOf, physical, performed, unlessSuppressed, withoutAccess, isAccess, findsBuffer, dataRequestOf, avoidsPorts, hasHazard, onAddress, onData, onAccess, onInstruction, fetchRequestOf, onWord, onFetchAddress, onFetch, fetch, judged, coreStep}
+use Rattle.cores.specs.Core.{View, causes, causesWithout, suppressed, stopped, faulted, faultOf, physical, performed, unlessSuppressed, withoutAccess, isAccess, findsBuffer, dataRequestOf, avoidsPorts, hasHazard, onAddress, onData, onAccess, onInstruction, fetchRequestOf, onWord, onFetchAddress, onFetch, fetch, judged, corePlan}
 use Rattle.cores.proofs.Settle.{ask-holds, ask-fails, settle-yield, settle-undecided}
 
 -- a guard, by what tests it
@@ -105,7 +105,7 @@ module _ (v : View) (m : List ℕ) where
     unfolding onAccess
     access-unfit t = unasked refused t (not (user (v .core)) || (among wR (v .tlb) && hit (dataRequestOf (v .core) i w) wR)) (onData v m wR i w (faultOf v m (dataRequestOf (v .core) i w) wR))
 
-    pub access-fit : (t : Bool) (f : Verdict) → t ≡ (not (user (v .core)) || (among wR (v .tlb) && hit (dataRequestOf (v .core) i w) wR)) → t ≡ true → f ≡ faultOf v m (dataRequestOf (v .core) i w) wR →
+    pub access-fit : (t : Bool) (f : Faulting) → t ≡ (not (user (v .core)) || (among wR (v .tlb) && hit (dataRequestOf (v .core) i w) wR)) → t ≡ true → f ≡ faultOf v m (dataRequestOf (v .core) i w) wR →
         settle refused (onData v m wR i w f) ≡ settle refused (onAccess v m wR i w)
     unfolding onAccess
     access-fit t f p e q =
@@ -174,7 +174,7 @@ module _ (v : View) (m : List ℕ) where
     unfolding fetch
     fetch-unfit t = unasked refused t (not (user (v .core)) || (among wI (v .tlb) && hit (fetchRequestOf (v .core)) wI)) (onFetch v m wI wR (faultOf v m (fetchRequestOf (v .core)) wI))
 
-    pub fetch-fit : (t : Bool) (f : Verdict) → t ≡ (not (user (v .core)) || (among wI (v .tlb) && hit (fetchRequestOf (v .core)) wI)) → t ≡ true → f ≡ faultOf v m (fetchRequestOf (v .core)) wI →
+    pub fetch-fit : (t : Bool) (f : Faulting) → t ≡ (not (user (v .core)) || (among wI (v .tlb) && hit (fetchRequestOf (v .core)) wI)) → t ≡ true → f ≡ faultOf v m (fetchRequestOf (v .core)) wI →
         settle refused (onFetch v m wI wR f) ≡ settle refused (fetch v m wI wR)
     unfolding fetch
     fetch-fit t f p e q =
@@ -186,19 +186,19 @@ module _ (v : View) (m : List ℕ) where
     begun : Judged Plan
     begun = if eqb (v .core .pc % 4) 0 then fetch v m wI wR else yield (stopped v 0 (causesWithout v true false) WalkChange.Nothing)
 
-    pub step-waits : v .running ≡ false → refused 6 ≡ coreStep v m wI wR
-    unfolding coreStep judged begun
+    pub step-waits : v .running ≡ false → refused 6 ≡ corePlan v m wI wR
+    unfolding corePlan judged begun
     step-waits e = sym (ask-fails refused (v .running) begun e)
 
-    pub step-misaligned : v .running ≡ true → eqb (v .core .pc % 4) 0 ≡ false → stopped v 0 (causesWithout v true false) WalkChange.Nothing ≡ coreStep v m wI wR
-    unfolding coreStep judged begun
+    pub step-misaligned : v .running ≡ true → eqb (v .core .pc % 4) 0 ≡ false → stopped v 0 (causesWithout v true false) WalkChange.Nothing ≡ corePlan v m wI wR
+    unfolding corePlan judged begun
     step-misaligned e p =
         sym (ask-holds refused (v .running) begun e
         ∙ (ap (λ s. settle refused (if s then fetch v m wI wR else yield (stopped v 0 (causesWithout v true false) WalkChange.Nothing))) p
         ∙ settle-yield refused _))
 
-    pub step-fetch : v .running ≡ true → eqb (v .core .pc % 4) 0 ≡ true → settle refused (fetch v m wI wR) ≡ coreStep v m wI wR
-    unfolding coreStep judged begun
+    pub step-fetch : v .running ≡ true → eqb (v .core .pc % 4) 0 ≡ true → settle refused (fetch v m wI wR) ≡ corePlan v m wI wR
+    unfolding corePlan judged begun
     step-fetch e p =
         sym (ask-holds refused (v .running) begun e
         ∙ ap (λ s. settle refused (if s then fetch v m wI wR else yield (stopped v 0 (causesWithout v true false) WalkChange.Nothing))) p)

@@ -31,7 +31,7 @@ use Rattle.cores.specs.declared.Write.{Write}
 use Rattle.cores.specs.declared.Write.the-variants.{Memory, LocalPort, IoPort}
 use Rattle.cores.specs.declared.Plan.{Plan}
 use Rattle.cores.specs.Plans.{refused}
-use Rattle.cores.specs.Commit.{coreAfter, bufferAfter, walksAfter, portAfter, blockAfter, headerAfter, tablesAfter, writtenTo, memoryAfter, fits}
+use Rattle.cores.specs.Commit.{coreAfter, bufferAfter, walksAfter, portAfter, blockAfter, headerAfter, tablesByPlan, writtenTo, memoryByPlan, fits}
 use Rattle.cores.proofs.Doing.{port-ready}
 use Rattle.cores.proofs.Sounds.{plan-shows}
 use Rattle.cores.proofs.Bounds.{PlanWords, after-words, header-words}
@@ -40,8 +40,8 @@ use Rattle.cores.proofs.Decisions.{alignedWrite, MayBeDone}
 -- ---- the header
 
 -- what each word of the I/O APIC leaves, a write at its ports leaves
-by-words : (P : List ℕ → Type 0) → ((t : List ℕ) (i v : ℕ) → 4 ≤ i → i ≤ 29 → P t → P (set t i v)) → (t : List ℕ) (a v : ℕ) → P t → P (ioapic.written t a v)
-unfolding ioapic.written ioapic.selected ioapic.windowed
+by-words : (P : List ℕ → Type 0) → ((t : List ℕ) (i v : ℕ) → 4 ≤ i → i ≤ 29 → P t → P (set t i v)) → (t : List ℕ) (a v : ℕ) → P t → P (ioapic.ioWritten t a v)
+unfolding ioapic.ioWritten ioapic.selected ioapic.windowed
 by-words P f t a v p = go (eqb a 0) (ltb (getD t ioregsel 0) 24) refl
   where
     go : (x y : Bool) → ltb (getD t ioregsel 0) 24 ≡ y →
@@ -92,23 +92,23 @@ header-still (IoPort a v) t e = absurd (true-false e)
 -- ---- the tables
 
 module _ (k : ℕ) (p : Plan) (t : List ℕ) (fits : 32 + 256 * k + 256 ≤ length t) (long : length (blockAfter p (block t k)) ≡ 256) where
-  pub tables-long : length (tablesAfter k p t) ≡ length t
-  unfolding tablesAfter
+  pub tables-long : length (tablesByPlan k p t) ≡ length t
+  unfolding tablesByPlan
   tables-long = header-long (p .write) _ ∙ with-long t k (blockAfter p (block t k)) fits long
 
   -- the core's block
-  pub tables-own : block (tablesAfter k p t) k ≡ blockAfter p (block t k)
-  unfolding tablesAfter
+  pub tables-own : block (tablesByPlan k p t) k ≡ blockAfter p (block t k)
+  unfolding tablesByPlan
   tables-own = header-block (p .write) _ k ∙ with-block t k (blockAfter p (block t k)) fits long
 
   -- the blocks of the other cores stay
-  pub tables-other : (j : ℕ) → j ≢ k → 32 + 256 * j + 256 ≤ length t → block (tablesAfter k p t) j ≡ block t j
-  unfolding tablesAfter
+  pub tables-other : (j : ℕ) → j ≢ k → 32 + 256 * j + 256 ≤ length t → block (tablesByPlan k p t) j ≡ block t j
+  unfolding tablesByPlan
   tables-other j d h = header-block (p .write) _ j ∙ with-other t k (blockAfter p (block t k)) fits long j d h
 
   -- so does every word outside the block and words 4 to 29
-  pub tables-local : (i : ℕ) → (i < 4) ⊎ (29 < i) → (i < 32 + 256 * k) ⊎ (32 + 256 * k + 256 ≤ i) → getD (tablesAfter k p t) i 0 ≡ getD t i 0
-  unfolding tablesAfter
+  pub tables-local : (i : ℕ) → (i < 4) ⊎ (29 < i) → (i < 32 + 256 * k) ⊎ (32 + 256 * k + 256 ≤ i) → getD (tablesByPlan k p t) i 0 ≡ getD t i 0
+  unfolding tablesByPlan
   tables-local i o q = header-local (p .write) _ i o ∙ with-outside t k (blockAfter p (block t k)) fits long i q
 
 -- ---- memory
@@ -170,11 +170,11 @@ written-bytes (IoPort a v) m b = b
 pub whole-words : (t : List ℕ) (n : ℕ) → sound t n ≡ true → n % 4 ≡ 0
 whole-words t n e = omega (arith, bytes-divide t n e)
 
-refused-tables : (k j : ℕ) (t : List ℕ) → tablesAfter k (refused j) t ≡ t
-unfolding tablesAfter headerAfter blockAfter portAfter walksAfter bufferAfter coreAfter
+refused-tables : (k j : ℕ) (t : List ℕ) → tablesByPlan k (refused j) t ≡ t
+unfolding tablesByPlan headerAfter blockAfter portAfter walksAfter bufferAfter coreAfter
 refused-tables k j t = with-same t k
 
-refused-memory : (j : ℕ) (m : List ℕ) → memoryAfter (refused j) m ≡ m
+refused-memory : (j : ℕ) (m : List ℕ) → memoryByPlan (refused j) m ≡ m
 unfolding writtenTo
 refused-memory j m = refl
 
@@ -183,16 +183,16 @@ module _ (t m : List ℕ) (k : ℕ) (p : Plan) (e : sound t (length m) ≡ true)
   plan-long = plan-shows (length m) p (block t k) (core-long t (length m) e k h) (core-sound t (length m) e k h) (D .is-ready) (D .is-sound) .long
 
   -- sound tables stay sound
-  pub plan-sound : sound (tablesAfter k p t) (length (memoryAfter p m)) ≡ true
-  unfolding tablesAfter
+  pub plan-sound : sound (tablesByPlan k p t) (length (memoryByPlan p m)) ≡ true
+  unfolding tablesByPlan
   plan-sound =
       let S = plan-shows (length m) p (block t k) (core-long t (length m) e k h) (core-sound t (length m) e k h) (D .is-ready) (D .is-sound) in
-      ap (λ (n : ℕ). sound (tablesAfter k p t) n) (written-long (p .write) m)
+      ap (λ (n : ℕ). sound (tablesByPlan k p t) n) (written-long (p .write) m)
       ∙ header-sound (p .write) _ (length m) (with-sound t (length m) e k (blockAfter p (block t k)) h (S .long) (S .sound))
 
   -- words stay words
-  pub plan-words : Words t → Words (tablesAfter k p t)
-  unfolding tablesAfter
+  pub plan-words : Words t → Words (tablesByPlan k p t)
+  unfolding tablesByPlan
   plan-words w =
       let B : Words (block t k) = block-words t k w in
       let P : PlanWords p = D .brings-words B in
@@ -201,9 +201,9 @@ module _ (t m : List ℕ) (k : ℕ) (p : Plan) (e : sound t (length m) ≡ true)
       (withBlock-words t k (blockAfter p (block t k)) w (after-words (length m) p (block t k) few (D .is-sound) (port-ready p (block t k) (D .is-ready)) P B))
 
   -- one run of memory at most
-  pub plan-memory : (memoryAfter p m ≡ m) ⊎ Run m (memoryAfter p m)
+  pub plan-memory : (memoryByPlan p m ≡ m) ⊎ Run m (memoryByPlan p m)
   plan-memory = memory-local (p .write) m (D .is-fitting) (D .is-aligned)
 
   -- a refusal changes nothing
-  pub refused-still : (j : ℕ) → p .answer ≡ Refused j → (tablesAfter k p t ≡ t) × (memoryAfter p m ≡ m)
-  refused-still j a = let q = D .is-still j a in (ap (λ (r : Plan). tablesAfter k r t) q ∙ refused-tables k j t, ap (λ (r : Plan). memoryAfter r m) q ∙ refused-memory j m)
+  pub refused-still : (j : ℕ) → p .answer ≡ Refused j → (tablesByPlan k p t ≡ t) × (memoryByPlan p m ≡ m)
+  refused-still j a = let q = D .is-still j a in (ap (λ (r : Plan). tablesByPlan k r t) q ∙ refused-tables k j t, ap (λ (r : Plan). memoryByPlan r m) q ∙ refused-memory j m)

@@ -174,8 +174,8 @@ then-passive : {n : ℕ} {b c : List ℕ} {r : Registers} {x : ℕ} {ss : List S
 then-passive {n} {b} S K = next S (passive n b (S .long) (S .sound) K)
 
 module _ (n : ℕ) (b : List ℕ) (long : length b ≡ 256) (e : soundBlock n b ≡ true) where
-  ended-shows : (v : ℕ) → Shows n (apic.ended b v) (registersOf b) (runningOf b) (stores b) (walks b)
-  unfolding apic.ended
+  ended-shows : (v : ℕ) → Shows n (apic.eoiWritten b v) (registersOf b) (runningOf b) (stores b) (walks b)
+  unfolding apic.eoiWritten
   ended-shows v =
       then-passive
       (then-passive (port-shows n b long e apic.eoi v (omega arith) (omega arith)) (kept-marked (set b apic.eoi v) b apic.isr apic.isr 0 (omega arith) (omega arith) (omega arith)))
@@ -185,8 +185,8 @@ module _ (n : ℕ) (b : List ℕ) (long : length b ≡ 256) (e : soundBlock n b 
   if-shows true S T = S
   if-shows false S T = T
 
-  written-shows : (a v : ℕ) → a < 128 → Shows n (apic.written b a v) (registersOf b) (runningOf b) (stores b) (walks b)
-  unfolding apic.written
+  written-shows : (a v : ℕ) → a < 128 → Shows n (apic.portWritten b a v) (registersOf b) (runningOf b) (stores b) (walks b)
+  unfolding apic.portWritten
   written-shows a v h = if-shows (eqb a 12) (ended-shows v) (port-shows n b long e (apic.portAt a) v (omega arith) (omega arith))
 
   -- ---- the parts of a plan

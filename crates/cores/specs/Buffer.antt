@@ -6,9 +6,9 @@ use Rattle.word.specs.Word.{if_then_else_}
 use Rattle.records.specs.declared.Store.{Store}
 use Rattle.store_buffer.specs.declared.Oldest.{Oldest}
 use Rattle.store_buffer.specs.declared.Oldest.the-variants.{Empty, Leaves}
-use Rattle.store_buffer.specs.declared.Target.{Target}
-use Rattle.store_buffer.specs.declared.Target.the-variants as to
-use Rattle.store_buffer.specs.Leaving.{oldest, target}
+use Rattle.store_buffer.specs.declared.Place.{Place}
+use Rattle.store_buffer.specs.declared.Place.the-variants as to
+use Rattle.store_buffer.specs.Leaving.{oldest, placeOf}
 use Rattle.ioapic.specs.IoApic.{writes}
 use Rattle.cores.specs.declared.BufferChange.the-variants.{Take}
 use Rattle.cores.specs.declared.WalkChange.{WalkChange}
@@ -17,7 +17,7 @@ use Rattle.cores.specs.declared.Plan.{Plan}
 use Rattle.cores.specs.Plans.{refused, done}
 
 -- a byte or half has no place at a port, nor has a redirect entry of 24 or more
-unfoldable pub leavesTo : Store → Target → Plan
+unfoldable pub leavesTo : Store → Place → Plan
 leavesTo s (to.LocalPort a) = done Take WalkChange.Nothing (LocalPort a (s .value))
 leavesTo s (to.IoPort a) = if writes a (s .value) then done Take WalkChange.Nothing (IoPort a (s .value)) else refused 6
 leavesTo s to.Narrow = refused 6
@@ -27,7 +27,7 @@ leavesTo s to.Beyond = refused 7
 -- beside a memory of n bytes
 unfoldable pub onOldest : ℕ → Oldest → Plan
 onOldest n Empty = refused 6
-onOldest n (Leaves s) = leavesTo s (target n s)
+onOldest n (Leaves s) = leavesTo s (placeOf n s)
 
 abbrev pub bufferStep : List Store → ℕ → Plan
 bufferStep sb n = onOldest n (oldest sb)

@@ -29,8 +29,8 @@ use Rattle.cores.specs.declared.Plan.{Plan}
 -- an interrupt and a return are also signals to the local APIC
 unfoldable pub coreAfter : CoreChange → List ℕ → List ℕ
 coreAfter CoreChange.Nothing b = b
-coreAfter (Interrupt w R ca k) b = apic.jisr (withRegisters b (deltaJisr (registersOf b) w R ca k))
-coreAfter Return b = apic.rfe (withRegisters b (deltaRfe (registersOf b)))
+coreAfter (Interrupt w R ca k) b = apic.onJisr (withRegisters b (deltaJisr (registersOf b) w R ca k))
+coreAfter Return b = apic.onRfe (withRegisters b (deltaRfe (registersOf b)))
 coreAfter (Execute i w R) b = withRegisters b (effect i (registersOf b) w R)
 
 unfoldable pub bufferAfter : BufferChange → List ℕ → List ℕ
@@ -46,7 +46,7 @@ walksAfter (Drop f) b = dropWalks f b
 unfoldable pub portAfter : Write → List ℕ → List ℕ
 portAfter Write.Nothing b = b
 portAfter (Memory a d v) b = b
-portAfter (LocalPort a v) b = apic.written b a v
+portAfter (LocalPort a v) b = apic.portWritten b a v
 portAfter (IoPort a v) b = b
 
 unfoldable pub blockAfter : Plan → List ℕ → List ℕ
@@ -58,11 +58,11 @@ unfoldable pub headerAfter : Write → List ℕ → List ℕ
 headerAfter Write.Nothing t = t
 headerAfter (Memory a d v) t = t
 headerAfter (LocalPort a v) t = t
-headerAfter (IoPort a v) t = ioapic.written t a v
+headerAfter (IoPort a v) t = ioapic.ioWritten t a v
 
 -- a plan of core k
-unfoldable pub tablesAfter : ℕ → Plan → List ℕ → List ℕ
-tablesAfter k p t = headerAfter (p .write) (withBlock t k (blockAfter p (block t k)))
+unfoldable pub tablesByPlan : ℕ → Plan → List ℕ → List ℕ
+tablesByPlan k p t = headerAfter (p .write) (withBlock t k (blockAfter p (block t k)))
 
 unfoldable pub writtenTo : Write → List ℕ → List ℕ
 writtenTo Write.Nothing m = m
@@ -70,8 +70,8 @@ writtenTo (Memory a d v) m = put d m a v
 writtenTo (LocalPort a v) m = m
 writtenTo (IoPort a v) m = m
 
-abbrev pub memoryAfter : Plan → List ℕ → List ℕ
-memoryAfter p m = writtenTo (p .write) m
+abbrev pub memoryByPlan : Plan → List ℕ → List ℕ
+memoryByPlan p m = writtenTo (p .write) m
 
 -- ---- what a plan asks: a place in the block's records, a port that is one, bytes in memory of n bytes
 

@@ -20,8 +20,8 @@ use Rattle.records.specs.declared.Flush.the-variants.{All, Page, Incomplete}
 use Rattle.records.specs.Records.{among, stores, walks}
 use Rattle.records.specs.Contents.{allThere}
 use Rattle.tlb.specs.declared.Request.{Request}
-use Rattle.tlb.specs.declared.Verdict.{Verdict}
-use Rattle.tlb.specs.declared.Verdict.the-variants.{Faults, Passes, Undecided}
+use Rattle.tlb.specs.declared.Faulting.{Faulting}
+use Rattle.tlb.specs.declared.Faulting.the-variants.{Faults, Passes, Undecided}
 use Rattle.tlb.specs.Walks.{walkBa, complete, hit, fault, fetchR, loadR, storeR, baseAddress, pageKey}
 use Rattle.tables.specs.Views.{registersOf, runningOf}
 use Rattle.store_buffer.specs.declared.Read.{Read}
@@ -109,7 +109,7 @@ faulted c a = Drop (Page (pageKey (baseAddress a) (asidOf c)))
 abbrev pub walkGuard : View → Request → Walk → Guard
 walkGuard v trq w = test (not (user (v .core)) || (among w (v .tlb) && hit trq w))
 
-abbrev pub faultOf : View → List ℕ → Request → Walk → Verdict
+abbrev pub faultOf : View → List ℕ → Request → Walk → Faulting
 faultOf v m trq w = if user (v .core) then fault m trq w else Passes
 
 abbrev pub completeGuard : View → Walk → Guard
@@ -196,7 +196,7 @@ onAddress v m i w a =
     let ca : ℕ = causes v i w false in
     ask (test (not (avoidsPorts i && isPort a)) ∷ test (not (hasHazard (v .sb) i a)) ∷ []) (yield (unlessSuppressed v w ca (performed v m i w ca a)))
 
-unfoldable pub onData : View → List ℕ → Walk → Instruction → ℕ → Verdict → Judged Plan
+unfoldable pub onData : View → List ℕ → Walk → Instruction → ℕ → Faulting → Judged Plan
 onData v m wR i w Passes = ask (completeGuard v wR ∷ []) (onAddress v m i w (physical v wR (ea i (v .core) w)))
 onData v m wR i w Faults = yield (stopped v w (causes v i w true) (faulted (v .core) (ea i (v .core) w)))
 onData v m wR i w Undecided = ask (undecided ∷ []) (yield (refused 7))
@@ -222,7 +222,7 @@ onWord v m wR Nowhere = ask (undecided ∷ []) (yield (refused 7))
 unfoldable pub onFetchAddress : View → List ℕ → Walk → ℕ → Judged Plan
 onFetchAddress v m wR a = ask (test (not (isPort a)) ∷ []) (onWord v m wR (reads 4 (memoryByte m) a))
 
-unfoldable pub onFetch : View → List ℕ → Walk → Walk → Verdict → Judged Plan
+unfoldable pub onFetch : View → List ℕ → Walk → Walk → Faulting → Judged Plan
 onFetch v m wI wR Passes = ask (completeGuard v wI ∷ []) (onFetchAddress v m wR (physical v wI (v .core .pc)))
 onFetch v m wI wR Faults = yield (stopped v 0 (causesWithout v false true) (faulted (v .core) (v .core .pc)))
 onFetch v m wI wR Undecided = ask (undecided ∷ []) (yield (refused 7))
@@ -238,5 +238,5 @@ judged v m wI wR =
     (if eqb (v .core .pc % 4) 0 then fetch v m wI wR
     else yield (stopped v 0 (causesWithout v true false) WalkChange.Nothing))
 
-unfoldable pub coreStep : View → List ℕ → Walk → Walk → Plan
-coreStep v m wI wR = settle refused (judged v m wI wR)
+unfoldable pub corePlan : View → List ℕ → Walk → Walk → Plan
+corePlan v m wI wR = settle refused (judged v m wI wR)

@@ -17,8 +17,8 @@ use records::Store;
 use records::Walk;
 use store_buffer::Loaded;
 use store_buffer::Read;
+use tlb::Faulting;
 use tlb::Request;
-use tlb::Verdict;
 ghost use mathlib.Core.Path.{_≡_};
 ghost use mathlib.Core.Bool.{true, false, not, _||_};
 ghost use Prim.Native.Nat.{_%_, _*_, _^_};
@@ -30,7 +30,7 @@ ghost use Rattle.records.specs.Records.{linked, stores};
 ghost use Rattle.records.specs.Contents.{soundRecords, allThere};
 ghost use Rattle.store_buffer.specs.System.{aligned, sized, loaded, portsOf, reads, memoryByte};
 ghost use Rattle.tables.specs.Views.{registersOf};
-ghost use Rattle.tlb.specs.declared.Verdict.the-variants as verdict;
+ghost use Rattle.tlb.specs.declared.Faulting.the-variants as verdict;
 ghost use Rattle.cores.specs.Guards.{settle};
 ghost use Rattle.cores.specs.Plans as p;
 ghost use Rattle.cores.specs.Core as x;
@@ -335,9 +335,9 @@ fn access(
     }
     let f = translation::fault(m, user, t, walk);
     match f {
-        Verdict::Passes => passed(b, select, window, m, walk, i, w, ca),
-        Verdict::Faults => finish::stopped(b, w, ca + 32, translation::faulted(b, t.va)),
-        Verdict::Undecided => refused(7),
+        Faulting::Passes => passed(b, select, window, m, walk, i, w, ca),
+        Faulting::Faults => finish::stopped(b, w, ca + 32, translation::faulted(b, t.va)),
+        Faulting::Undecided => refused(7),
     }
 }
 

@@ -10,7 +10,7 @@ use records::Store;
 use records::Walk;
 use steps::Answer;
 use store_buffer::Oldest;
-use store_buffer::Target;
+use store_buffer::Place;
 use tlb::Decision;
 ghost use mathlib.Core.Path.{_≡_};
 ghost use mathlib.Core.Bool.{true};
@@ -99,16 +99,16 @@ pub fn accessed(b: &[u32], m: &[u8], w: Walk) -> Plan
     planned(b, tlb::accessed(b, m, w))
 }
 
-fn leaves_to(s: Store, t: Target) -> Plan
+fn leaves_to(s: Store, t: Place) -> Plan
     ensures { λ r. ⌜ r ≡ z.leavesTo s t ⌝ }
 {
     match t {
-        Target::LocalPort(a) => done(
+        Place::LocalPort(a) => done(
             BufferChange::Take,
             WalkChange::Nothing,
             Write::LocalPort(a, s.value),
         ),
-        Target::IoPort(a) => {
+        Place::IoPort(a) => {
             if ports::writes(a as usize, s.value) {
                 return done(
                     BufferChange::Take,
@@ -118,13 +118,13 @@ fn leaves_to(s: Store, t: Target) -> Plan
             }
             refused(6)
         }
-        Target::Narrow => refused(6),
-        Target::Memory => done(
+        Place::Narrow => refused(6),
+        Place::Memory => done(
             BufferChange::Take,
             WalkChange::Nothing,
             Write::Memory(s.address, s.width, s.value),
         ),
-        Target::Beyond => refused(7),
+        Place::Beyond => refused(7),
     }
 }
 

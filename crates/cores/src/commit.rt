@@ -16,7 +16,7 @@ ghost use Rattle.records.specs.Records.{linked};
 ghost use Rattle.layout.specs.Blocks.{block};
 ghost use Rattle.isa.specs.Core.{effect};
 ghost use Rattle.isa.specs.Interrupts.{deltaJisr, deltaRfe};
-ghost use Rattle.apic.specs.LocalApic.{jisr, rfe};
+ghost use Rattle.apic.specs.LocalApic.{onJisr, onRfe};
 ghost use Rattle.tables.specs.Views.{registersOf, withRegisters};
 ghost use Rattle.cores.specs.Commit as x;
 
@@ -31,7 +31,7 @@ fn execute(b: &mut [u32], i: Instruction, w: u32, read: u32)
 
 fn interrupt(b: &mut [u32], w: u32, read: u32, causes: u32, vector: u32)
     requires { ⌜ length (now b) ≡ 256 ⌝ }
-    ensures { λ _. ⌜ now (b .exit) ≡ jisr (withRegisters (now (b .entry)) (deltaJisr (registersOf (now (b .entry))) w read causes vector)) ⌝ }
+    ensures { λ _. ⌜ now (b .exit) ≡ onJisr (withRegisters (now (b .entry)) (deltaJisr (registersOf (now (b .entry))) w read causes vector)) ⌝ }
 {
     let c = registers::registers(b);
     registers::put_registers(b, c.interrupt(w, read, causes, vector));
@@ -40,7 +40,7 @@ fn interrupt(b: &mut [u32], w: u32, read: u32, causes: u32, vector: u32)
 
 fn return_from(b: &mut [u32])
     requires { ⌜ length (now b) ≡ 256 ⌝ }
-    ensures { λ _. ⌜ now (b .exit) ≡ rfe (withRegisters (now (b .entry)) (deltaRfe (registersOf (now (b .entry))))) ⌝ }
+    ensures { λ _. ⌜ now (b .exit) ≡ onRfe (withRegisters (now (b .entry)) (deltaRfe (registersOf (now (b .entry))))) ⌝ }
 {
     let c = registers::registers(b);
     registers::put_registers(b, c.eret());
@@ -158,8 +158,8 @@ pub fn commit(t: &mut [u32], m: &mut [u8], k: u32, p: Plan)
     requires { ⌜ linked (block (now t) k) ≡ true ⌝ }
     requires { ⌜ x.fits (p .write) (length (now m)) ≡ true ⌝ }
     requires { ⌜ x.ready p (block (now t) k) ≡ true ⌝ }
-    ensures { λ _. ⌜ now (t .exit) ≡ x.tablesAfter k p (now (t .entry)) ⌝ }
-    ensures { λ _. ⌜ now (m .exit) ≡ x.memoryAfter p (now (m .entry)) ⌝ }
+    ensures { λ _. ⌜ now (t .exit) ≡ x.tablesByPlan k p (now (t .entry)) ⌝ }
+    ensures { λ _. ⌜ now (m .exit) ≡ x.memoryByPlan p (now (m .entry)) ⌝ }
 {
     let a = layout::HEADER_WORDS + layout::BLOCK_WORDS * (k as usize);
     let e = a + layout::BLOCK_WORDS;

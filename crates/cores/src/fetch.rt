@@ -9,8 +9,8 @@ use super::refused;
 use super::translation;
 use records::Walk;
 use store_buffer::Read;
+use tlb::Faulting;
 use tlb::Request;
-use tlb::Verdict;
 ghost use mathlib.Core.Path.{_≡_};
 ghost use mathlib.Core.Bool.{true, not, _||_};
 ghost use Prim.Native.Nat.{_%_, _^_};
@@ -19,7 +19,7 @@ ghost use lib.Dec.{ltb};
 ghost use Rattle.isa.specs.Interrupts.{user};
 ghost use Rattle.records.specs.Contents.{soundRecords};
 ghost use Rattle.tables.specs.Views.{registersOf};
-ghost use Rattle.tlb.specs.declared.Verdict.the-variants as verdict;
+ghost use Rattle.tlb.specs.declared.Faulting.the-variants as verdict;
 ghost use Rattle.cores.specs.Guards.{settle};
 ghost use Rattle.cores.specs.Plans as p;
 ghost use Rattle.cores.specs.Core as x;
@@ -89,12 +89,12 @@ fn by_walk(b: &[u32], select: u32, window: u32, m: &[u8], fetch: Walk, second: W
     }
     let f = translation::fault(m, user, t, fetch);
     match f {
-        Verdict::Passes => passed(b, select, window, m, fetch, second),
-        Verdict::Faults => {
+        Faulting::Passes => passed(b, select, window, m, fetch, second),
+        Faulting::Faults => {
             let ca = causes::without(b, false, true);
             finish::stopped(b, 0, ca, translation::faulted(b, t.va))
         }
-        Verdict::Undecided => refused(7),
+        Faulting::Undecided => refused(7),
     }
 }
 
@@ -103,7 +103,7 @@ pub fn decide(b: &[u32], select: u32, window: u32, m: &[u8], fetch: Walk, second
     requires { ⌜ length (now b) ≡ 256 ⌝ }
     requires { ⌜ soundRecords (length (now m)) (now b) ≡ true ⌝ }
     requires { ⌜ length (now m) % 4 ≡ 0 ⌝ }
-    ensures { λ r. ⌜ r ≡ x.coreStep (x.viewOf (now (b .entry)) select window) (now (m .entry)) fetch second ⌝ }
+    ensures { λ r. ⌜ r ≡ x.corePlan (x.viewOf (now (b .entry)) select window) (now (m .entry)) fetch second ⌝ }
 {
     if b[layout::RUNNING] != 1 {
         return refused(6);

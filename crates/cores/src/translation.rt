@@ -3,8 +3,8 @@ use super::WalkChange;
 use super::block;
 use records::Flush;
 use records::Walk;
+use tlb::Faulting;
 use tlb::Request;
-use tlb::Verdict;
 ghost use mathlib.Core.Path.{_≡_};
 ghost use mathlib.Core.Bool.{true, not, _||_, _&&_};
 ghost use Prim.Native.Nat.{_<_, _^_, _+_, _*_, _%_};
@@ -13,7 +13,7 @@ ghost use lib.Dec.{ltb};
 ghost use Rattle.word.specs.Word.{if_then_else_};
 ghost use Rattle.records.specs.Records.{linked, walks, among};
 ghost use Rattle.tables.specs.Views.{registersOf};
-ghost use Rattle.tlb.specs.declared.Verdict.the-variants as verdict;
+ghost use Rattle.tlb.specs.declared.Faulting.the-variants as verdict;
 ghost use Rattle.tlb.specs.Walks as t;
 ghost use Rattle.cores.specs.Core as x;
 
@@ -41,13 +41,13 @@ pub fn fits(b: &[u32], user: bool, request: Request, w: Walk) -> bool
 }
 
 // Whether the access faults.
-pub fn fault(m: &[u8], user: bool, request: Request, w: Walk) -> Verdict
+pub fn fault(m: &[u8], user: bool, request: Request, w: Walk) -> Faulting
     ensures { λ r. ⌜ r ≡ (if user then t.fault (now (m .entry)) request w else verdict.Passes) ⌝ }
 {
     if user {
         return tlb::fault(m, request, w);
     }
-    Verdict::Passes
+    Faulting::Passes
 }
 
 // The walk that was used is complete.

@@ -10,8 +10,8 @@ use Rattle.decode.specs.declared.Instruction.{Instruction}
 use Rattle.decode.specs.declared.Instruction.the-variants.{Illegal}
 use Rattle.decode.specs.declared.Load.{Load}
 use Rattle.decode.specs.declared.Load.the-variants.{Lb, Lh, Lw, Lbu, Lhu}
-use Rattle.decode.specs.declared.Store.{Store}
-use Rattle.decode.specs.declared.Store.the-variants.{Sb, Sh, Sw}
+use Rattle.decode.specs.declared.StoreWidth.{StoreWidth}
+use Rattle.decode.specs.declared.StoreWidth.the-variants.{Sb, Sh, Sw}
 use Rattle.decode.specs.declared.Immediate.{Immediate}
 use Rattle.decode.specs.declared.Immediate.the-variants.{Addi, Addiu, Slti, Sltiu, Andi, Ori, Xori, Lui}
 use Rattle.decode.specs.declared.Branch.{Branch}
@@ -44,7 +44,7 @@ load-numbered Lw = refl
 load-numbered Lbu = refl
 load-numbered Lhu = refl
 
-store-numbered : (x : Store) → nameAt table (number (Instruction.Store x)) ≡ Instruction.Store x
+store-numbered : (x : StoreWidth) → nameAt table (number (Instruction.Store x)) ≡ Instruction.Store x
 store-numbered Sb = refl
 store-numbered Sh = refl
 store-numbered Sw = refl

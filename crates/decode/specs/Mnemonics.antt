@@ -8,8 +8,8 @@ use Rattle.decode.specs.declared.Instruction.{Instruction}
 use Rattle.decode.specs.declared.Instruction.the-variants.{Illegal}
 use Rattle.decode.specs.declared.Load.{Load}
 use Rattle.decode.specs.declared.Load.the-variants.{Lb, Lh, Lw, Lbu, Lhu}
-use Rattle.decode.specs.declared.Store.{Store}
-use Rattle.decode.specs.declared.Store.the-variants.{Sb, Sh, Sw}
+use Rattle.decode.specs.declared.StoreWidth.{StoreWidth}
+use Rattle.decode.specs.declared.StoreWidth.the-variants.{Sb, Sh, Sw}
 use Rattle.decode.specs.declared.Immediate.{Immediate}
 use Rattle.decode.specs.declared.Immediate.the-variants.{Addi, Addiu, Slti, Sltiu, Andi, Ori, Xori, Lui}
 use Rattle.decode.specs.declared.Branch.{Branch}
@@ -37,7 +37,7 @@ loadNumber Lw = 2
 loadNumber Lbu = 3
 loadNumber Lhu = 4
 
-abbrev storeNumber : Store → ℕ
+abbrev storeNumber : StoreWidth → ℕ
 storeNumber Sb = 5
 storeNumber Sh = 6
 storeNumber Sw = 7
@@ -125,9 +125,9 @@ number (Instruction.System s) = systemNumber s
 number Illegal = 61
 
 -- an instruction is one of those listed
-abbrev pub among : Instruction → List Instruction → Bool
-among i [] = false
-among i (j ∷ l) = eqb (number i) (number j) || among i l
+abbrev pub oneOf : Instruction → List Instruction → Bool
+oneOf i [] = false
+oneOf i (j ∷ l) = eqb (number i) (number j) || oneOf i l
 
 -- ---- types (definition 23): table 1 is of I-type, table 2 of J-type, tables 3 and 4 are of R-type
 
@@ -135,94 +135,94 @@ abbrev names : List Row → List Instruction
 names rows = map (λ (r : Row). r .name) rows
 
 unfoldable pub itype : Instruction → Bool
-itype i = among i (names table1)
+itype i = oneOf i (names table1)
 
 unfoldable pub jtype : Instruction → Bool
-jtype i = among i (names table2)
+jtype i = oneOf i (names table2)
 
 unfoldable pub rtype : Instruction → Bool
-rtype i = among i (names (table3 ++ table4))
+rtype i = oneOf i (names (table3 ++ table4))
 
 -- ---- classes of instructions
 
 -- definition 25
 unfoldable pub ill : Instruction → Bool
-ill i = among i (Illegal ∷ [])
+ill i = oneOf i (Illegal ∷ [])
 
 -- definition 26, of the rows that match
 unfoldable pub compi : Instruction → Bool
-compi i = among i (Instruction.Immediate Addi ∷ Instruction.Immediate Addiu ∷ Instruction.Immediate Slti ∷ Instruction.Immediate Sltiu ∷ Instruction.Immediate Andi ∷ Instruction.Immediate Ori ∷ Instruction.Immediate Xori ∷ Instruction.Immediate Lui ∷ [])
+compi i = oneOf i (Instruction.Immediate Addi ∷ Instruction.Immediate Addiu ∷ Instruction.Immediate Slti ∷ Instruction.Immediate Sltiu ∷ Instruction.Immediate Andi ∷ Instruction.Immediate Ori ∷ Instruction.Immediate Xori ∷ Instruction.Immediate Lui ∷ [])
 
 unfoldable pub compr : Instruction → Bool
-compr i = among i (Instruction.Alu Add ∷ Instruction.Alu Addu ∷ Instruction.Alu Sub ∷ Instruction.Alu Subu ∷ Instruction.Alu And ∷ Instruction.Alu Or ∷ Instruction.Alu Xor ∷ Instruction.Alu Nor ∷ Instruction.Alu Slt ∷ Instruction.Alu Sltu ∷ [])
+compr i = oneOf i (Instruction.Alu Add ∷ Instruction.Alu Addu ∷ Instruction.Alu Sub ∷ Instruction.Alu Subu ∷ Instruction.Alu And ∷ Instruction.Alu Or ∷ Instruction.Alu Xor ∷ Instruction.Alu Nor ∷ Instruction.Alu Slt ∷ Instruction.Alu Sltu ∷ [])
 
 unfoldable pub alu : Instruction → Bool
 alu i = compi i || compr i
 
 -- definition 32
 unfoldable pub mulacc : Instruction → Bool
-mulacc i = among i (Instruction.Multiply Mult ∷ Instruction.Multiply Multu ∷ Instruction.Multiply Madd ∷ Instruction.Multiply Maddu ∷ Instruction.Multiply Msub ∷ Instruction.Multiply Msubu ∷ [])
+mulacc i = oneOf i (Instruction.Multiply Mult ∷ Instruction.Multiply Multu ∷ Instruction.Multiply Madd ∷ Instruction.Multiply Maddu ∷ Instruction.Multiply Msub ∷ Instruction.Multiply Msubu ∷ [])
 
 -- definition 33
 unfoldable pub b : Instruction → Bool
-b i = among i (Instruction.Branch Bltz ∷ Instruction.Branch Bgez ∷ Instruction.Branch Beq ∷ Instruction.Branch Bne ∷ Instruction.Branch Blez ∷ Instruction.Branch Bgtz ∷ [])
+b i = oneOf i (Instruction.Branch Bltz ∷ Instruction.Branch Bgez ∷ Instruction.Branch Beq ∷ Instruction.Branch Bne ∷ Instruction.Branch Blez ∷ Instruction.Branch Bgtz ∷ [])
 
 unfoldable pub jump : Instruction → Bool
-jump i = among i (Instruction.Jump J ∷ Instruction.Jump Jal ∷ Instruction.Jump Jr ∷ Instruction.Jump Jalr ∷ [])
+jump i = oneOf i (Instruction.Jump J ∷ Instruction.Jump Jal ∷ Instruction.Jump Jr ∷ Instruction.Jump Jalr ∷ [])
 
 -- definition 37
 unfoldable pub su : Instruction → Bool
-su i = among i (Instruction.Shift Sll ∷ Instruction.Shift Srl ∷ Instruction.Shift Sra ∷ Instruction.Shift Sllv ∷ Instruction.Shift Srlv ∷ Instruction.Shift Srav ∷ [])
+su i = oneOf i (Instruction.Shift Sll ∷ Instruction.Shift Srl ∷ Instruction.Shift Sra ∷ Instruction.Shift Sllv ∷ Instruction.Shift Srlv ∷ Instruction.Shift Srav ∷ [])
 
 -- definition 42
 unfoldable pub load : Instruction → Bool
-load i = among i (Instruction.Load Lw ∷ Instruction.Load Lhu ∷ Instruction.Load Lh ∷ Instruction.Load Lbu ∷ Instruction.Load Lb ∷ [])
+load i = oneOf i (Instruction.Load Lw ∷ Instruction.Load Lhu ∷ Instruction.Load Lh ∷ Instruction.Load Lbu ∷ Instruction.Load Lb ∷ [])
 
 unfoldable pub store : Instruction → Bool
-store i = among i (Instruction.Store Sw ∷ Instruction.Store Sh ∷ Instruction.Store Sb ∷ [])
+store i = oneOf i (Instruction.Store Sw ∷ Instruction.Store Sh ∷ Instruction.Store Sb ∷ [])
 
 -- single instructions that definitions name
 unfoldable pub cas : Instruction → Bool
-cas i = among i (Instruction.System Cas ∷ [])
+cas i = oneOf i (Instruction.System Cas ∷ [])
 
 unfoldable pub mfence : Instruction → Bool
-mfence i = among i (Instruction.System Mfence ∷ [])
+mfence i = oneOf i (Instruction.System Mfence ∷ [])
 
 unfoldable pub flush : Instruction → Bool
-flush i = among i (Instruction.System Flush ∷ [])
+flush i = oneOf i (Instruction.System Flush ∷ [])
 
 unfoldable pub invlpg : Instruction → Bool
-invlpg i = among i (Instruction.System Invlpg ∷ [])
+invlpg i = oneOf i (Instruction.System Invlpg ∷ [])
 
 unfoldable pub eret : Instruction → Bool
-eret i = among i (Instruction.System Eret ∷ [])
+eret i = oneOf i (Instruction.System Eret ∷ [])
 
 unfoldable pub sysc : Instruction → Bool
-sysc i = among i (Instruction.System Sysc ∷ [])
+sysc i = oneOf i (Instruction.System Sysc ∷ [])
 
 unfoldable pub jal : Instruction → Bool
-jal i = among i (Instruction.Jump Jal ∷ [])
+jal i = oneOf i (Instruction.Jump Jal ∷ [])
 
 unfoldable pub jalr : Instruction → Bool
-jalr i = among i (Instruction.Jump Jalr ∷ [])
+jalr i = oneOf i (Instruction.Jump Jalr ∷ [])
 
 unfoldable pub movg2s : Instruction → Bool
-movg2s i = among i (Instruction.Move Movg2s ∷ [])
+movg2s i = oneOf i (Instruction.Move Movg2s ∷ [])
 
 unfoldable pub movs2g : Instruction → Bool
-movs2g i = among i (Instruction.Move Movs2g ∷ [])
+movs2g i = oneOf i (Instruction.Move Movs2g ∷ [])
 
 unfoldable pub mfhi : Instruction → Bool
-mfhi i = among i (Instruction.Move Mfhi ∷ [])
+mfhi i = oneOf i (Instruction.Move Mfhi ∷ [])
 
 unfoldable pub mflo : Instruction → Bool
-mflo i = among i (Instruction.Move Mflo ∷ [])
+mflo i = oneOf i (Instruction.Move Mflo ∷ [])
 
 unfoldable pub mthi : Instruction → Bool
-mthi i = among i (Instruction.Move Mthi ∷ [])
+mthi i = oneOf i (Instruction.Move Mthi ∷ [])
 
 unfoldable pub mtlo : Instruction → Bool
-mtlo i = among i (Instruction.Move Mtlo ∷ [])
+mtlo i = oneOf i (Instruction.Move Mtlo ∷ [])
 
 unfoldable pub mul : Instruction → Bool
-mul i = among i (Instruction.Multiply Mul ∷ [])
+mul i = oneOf i (Instruction.Multiply Mul ∷ [])

@@ -9,8 +9,8 @@ use Rattle.word.specs.Word.{if_then_else_}
 use Rattle.decode.specs.Fields.{opc, fun, rs, rt}
 use Rattle.decode.specs.declared.Load.{Load}
 use Rattle.decode.specs.declared.Load.the-variants.{Lb, Lh, Lw, Lbu, Lhu}
-use Rattle.decode.specs.declared.Store.{Store}
-use Rattle.decode.specs.declared.Store.the-variants.{Sb, Sh, Sw}
+use Rattle.decode.specs.declared.StoreWidth.{StoreWidth}
+use Rattle.decode.specs.declared.StoreWidth.the-variants.{Sb, Sh, Sw}
 use Rattle.decode.specs.declared.Immediate.{Immediate}
 use Rattle.decode.specs.declared.Immediate.the-variants.{Addi, Addiu, Slti, Sltiu, Andi, Ori, Xori, Lui}
 use Rattle.decode.specs.declared.Branch.{Branch}

@@ -8,7 +8,7 @@ use super::Load;
 use super::Move;
 use super::Multiply;
 use super::Shift;
-use super::Store;
+use super::StoreWidth;
 use super::System;
 ghost use mathlib.Core.Path.{_≡_};
 ghost use Rattle.decode.specs.Mnemonics as m;
@@ -25,13 +25,13 @@ fn load_number(i: Load) -> u32
     }
 }
 
-fn store_number(i: Store) -> u32
+fn store_number(i: StoreWidth) -> u32
     ensures { λ r. ⌜ r ≡ m.number (Instruction.Store i) ⌝ }
 {
     match i {
-        Store::Sb => 5,
-        Store::Sh => 6,
-        Store::Sw => 7,
+        StoreWidth::Sb => 5,
+        StoreWidth::Sh => 6,
+        StoreWidth::Sw => 7,
     }
 }
 

@@ -14,7 +14,7 @@ pub enum Load {
     Lhu,
 }
 
-pub enum Store {
+pub enum StoreWidth {
     Sb,
     Sh,
     Sw,
@@ -99,7 +99,7 @@ pub enum Alu {
 
 pub enum Instruction {
     Load(Load),
-    Store(Store),
+    Store(StoreWidth),
     Immediate(Immediate),
     Branch(Branch),
     Jump(Jump),
@@ -233,9 +233,9 @@ pub fn decode(w: u32) -> Instruction
         0b100011 => Instruction::Load(Load::Lw),
         0b100100 => Instruction::Load(Load::Lbu),
         0b100101 => Instruction::Load(Load::Lhu),
-        0b101000 => Instruction::Store(Store::Sb),
-        0b101001 => Instruction::Store(Store::Sh),
-        0b101011 => Instruction::Store(Store::Sw),
+        0b101000 => Instruction::Store(StoreWidth::Sb),
+        0b101001 => Instruction::Store(StoreWidth::Sh),
+        0b101011 => Instruction::Store(StoreWidth::Sw),
         _ => Instruction::Illegal,
     }
 }

@@ -16,7 +16,7 @@ use Rattle.word.proofs.Words.{Words, set-below}
 use Rattle.layout.specs.Layout.{ioregsel, iowin, redirect}
 use Rattle.apic.specs.Vectors.{withBit}
 use Rattle.apic.proofs.Bits.{put-lt}
-use Rattle.ioapic.specs.IoApic.{entry, withEntry, vect, rirr, ds, selected, windowed, written, onEntries, acknowledged, ended, sampled, handed}
+use Rattle.ioapic.specs.IoApic.{entry, withEntry, vect, rirr, ds, selected, windowed, ioWritten, onEntries, acknowledged, eoiReceived, sampled, handed}
 
 -- the words that are not the I/O APIC's
 abbrev pub Foreign : ℕ → Type 0
@@ -73,8 +73,8 @@ module _ (t : List ℕ) where
       kept-then (window-case (ltb (getD t ioregsel 0) 24) v refl hv)
       (kept-set (if ltb (getD t ioregsel 0) 24 then withEntry t (getD t ioregsel 0) v else t) iowin v (omega arith) (omega arith) (λ w. hv))
 
-  pub kept-written : (a v : ℕ) → v < 2 ^ 32 → Kept t (written t a v)
-  unfolding written
+  pub kept-written : (a v : ℕ) → v < 2 ^ 32 → Kept t (ioWritten t a v)
+  unfolding ioWritten
   kept-written a v hv = kept-if (eqb a 0) (kept-selected v hv) (kept-windowed v hv)
 
   pub kept-sampled : (k : ℕ) → k < 24 → Kept t (sampled t k)
@@ -101,8 +101,8 @@ kept-entries t v (suc n) h =
     kept-then (kept-entries t v n (omega arith))
     (kept-entry u n (acknowledged v (entry u n)) (omega arith) (λ w. acknowledged-lt v (entry u n) (eqb (vect (entry u n)) v) (w (redirect + n))))
 
-pub kept-ended : (t : List ℕ) (v : ℕ) → Kept t (ended t v)
-unfolding ended
+pub kept-ended : (t : List ℕ) (v : ℕ) → Kept t (eoiReceived t v)
+unfolding eoiReceived
 kept-ended t v = kept-entries t v 24 (omega arith)
 
 module _ (f : ℕ → ℕ) (t : List ℕ) (i : ℕ) where
@@ -134,6 +134,6 @@ module _ (f : ℕ → ℕ) (t : List ℕ) (i : ℕ) where
       (side i n)
 
 -- 10.2, EOI: every entry with this vector
-pub ended-entry : (t : List ℕ) (v i : ℕ) → 32 ≤ length t → i < 24 → entry (ended t v) i ≡ acknowledged v (entry t i)
-unfolding ended
+pub ended-entry : (t : List ℕ) (v i : ℕ) → 32 ≤ length t → i < 24 → entry (eoiReceived t v) i ≡ acknowledged v (entry t i)
+unfolding eoiReceived
 ended-entry t v i l h = entries-at (acknowledged v) t i 24 (omega arith) h

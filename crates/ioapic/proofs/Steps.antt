@@ -14,12 +14,12 @@ use Rattle.word.proofs.Words.{Words}
 use Rattle.layout.specs.Layout.{eoipending, redirect}
 use Rattle.apic.specs.declared.active.Ipi.{Ipi}
 use Rattle.apic.specs.LocalApic.{idOf, fixed, irr}
-use Rattle.apic.specs.Active.{idle, reached, eoiSent}
+use Rattle.apic.specs.Active.{idle, receivedBy, eoiSent}
 use Rattle.apic.proofs.Kept.{Passive, kept-all, kept-if, kept-idle, kept-reached, kept-vector}
 use Rattle.apic.proofs.Kept as local
 use Rattle.layout.specs.Blocks.{block}
 use Rattle.ioapic.specs.Blocks.{onBlock}
-use Rattle.ioapic.specs.IoApic.{entry, dest, vect, acknowledged, ended, handed}
+use Rattle.ioapic.specs.IoApic.{entry, dest, vect, acknowledged, eoiReceived, handed}
 use Rattle.ioapic.specs.Bus.{broadcast, sendIpi, sendEoi, deliver}
 use Rattle.layout.proofs.Blocks.{Has}
 use Rattle.ioapic.proofs.Header.{Kept, kept-ended, kept-handed, ended-entry}
@@ -54,7 +54,7 @@ module _ (n : ℕ) (t : List ℕ) (all : length t ≡ 32 + 256 * n) where
 
   module _ (i : ℕ) (hi : i < n) (m : Ipi) (hv : m .vect < 256) where
     abbrev f : ℕ → List ℕ → List ℕ
-    f j b = reached m (eqb j i) b
+    f j b = receivedBy m (eqb j i) b
 
     local-f : (j : ℕ) → Local (f j)
     local-f j b = kept-reached b m (eqb j i) hv
@@ -76,11 +76,11 @@ module _ (n : ℕ) (t : List ℕ) (all : length t ≡ 32 + 256 * n) where
         onBlocks-header f (λ j. sized (f j) (local-f j)) idled n idled-long n (omega arith) x h
         ∙ onBlock-header idle (sized idle kept-idle) t i (has i hi) x h
 
-    pub ipi-block : (j : ℕ) → j < n → block (sendIpi n i m t) j ≡ reached m (eqb j i) (if eqb j i then idle (block t j) else block t j)
+    pub ipi-block : (j : ℕ) → j < n → block (sendIpi n i m t) j ≡ receivedBy m (eqb j i) (if eqb j i then idle (block t j) else block t j)
     unfolding sendIpi broadcast idled
     ipi-block j h =
         onBlocks-at f (λ j. sized (f j) (local-f j)) idled n idled-long n (omega arith) j h
-        ∙ ap (reached m (eqb j i)) (one idle (sized idle kept-idle) t i j (has i hi) (has j h))
+        ∙ ap (receivedBy m (eqb j i)) (one idle (sized idle kept-idle) t i j (has i hi) (has j h))
 
     pub ipi-words : Words t → Words (sendIpi n i m t)
     unfolding sendIpi broadcast idled
@@ -121,7 +121,7 @@ module _ (n : ℕ) (t : List ℕ) (all : length t ≡ 32 + 256 * n) where
     pub eoi-block : (j : ℕ) → j < n → block (sendEoi i v t) j ≡ (if eqb j i then eoiSent (block t j) v else block t j)
     unfolding sendEoi sent
     eoi-block j h =
-        block-agrees sent (ended sent v) j (kept-ended sent v .long) (λ x l. kept-ended sent v .same x (inr l)) (omega (arith, sent-long))
+        block-agrees sent (eoiReceived sent v) j (kept-ended sent v .long) (λ x l. kept-ended sent v .same x (inr l)) (omega (arith, sent-long))
         ∙ one g (sized g local-g) t i j (has i hi) (has j h)
 
     pub eoi-words : Words t → Words (sendEoi i v t)

@@ -6,13 +6,13 @@ use lib.Dec.{eqb}
 use Rattle.word.specs.Word.{if_then_else_}
 use Rattle.apic.specs.declared.active.Ipi.{Ipi}
 use Rattle.apic.specs.LocalApic.{idOf, fixed}
-use Rattle.apic.specs.Active.{idle, reached, eoiSent}
+use Rattle.apic.specs.Active.{idle, receivedBy, eoiSent}
 use Rattle.ioapic.specs.Blocks.{onBlock, onBlocks}
-use Rattle.ioapic.specs.IoApic.{entry, dest, vect, ended, handed}
+use Rattle.ioapic.specs.IoApic.{entry, dest, vect, eoiReceived, handed}
 
 -- an interrupt from core i reaches its targets
 unfoldable pub broadcast : ℕ → ℕ → Ipi → List ℕ → List ℕ
-broadcast n i m t = onBlocks (λ (j : ℕ) (b : List ℕ). reached m (eqb j i) b) n t
+broadcast n i m t = onBlocks (λ (j : ℕ) (b : List ℕ). receivedBy m (eqb j i) b) n t
 
 -- apic-sendIPI: core i sends m
 unfoldable pub sendIpi : ℕ → ℕ → Ipi → List ℕ → List ℕ
@@ -20,7 +20,7 @@ sendIpi n i m t = broadcast n i m (onBlock idle i t)
 
 -- apic-sendEOI: core i sends the EOI message for vector v
 unfoldable pub sendEoi : ℕ → ℕ → List ℕ → List ℕ
-sendEoi i v t = ended (onBlock (λ (b : List ℕ). eoiSent b v) i t) v
+sendEoi i v t = eoiReceived (onBlock (λ (b : List ℕ). eoiSent b v) i t) v
 
 -- ioapic-deliver: the interrupt of line k goes to every local APIC whose ID is the entry's destination
 unfoldable pub deliver : ℕ → ℕ → List ℕ → List ℕ

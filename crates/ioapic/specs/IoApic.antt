@@ -47,8 +47,8 @@ selected t v = set (set t ioregsel v) iowin (entry t v)
 unfoldable pub windowed : List ℕ → ℕ → List ℕ
 windowed t v = set (if ltb (getD t ioregsel 0) 24 then withEntry t (getD t ioregsel 0) v else t) iowin v
 
-unfoldable pub written : List ℕ → ℕ → ℕ → List ℕ
-written t a v = if eqb a 0 then selected t v else windowed t v
+unfoldable pub ioWritten : List ℕ → ℕ → ℕ → List ℕ
+ioWritten t a v = if eqb a 0 then selected t v else windowed t v
 
 -- f at each of the first n entries
 unfoldable pub onEntries : (ℕ → ℕ) → ℕ → List ℕ → List ℕ
@@ -59,8 +59,8 @@ abbrev pub acknowledged : ℕ → ℕ → ℕ
 acknowledged v e = if eqb (vect e) v then withBit e rirr 0 else e
 
 -- vect: an EOI message
-unfoldable pub ended : List ℕ → ℕ → List ℕ
-ended t v = onEntries (acknowledged v) 24 t
+unfoldable pub eoiReceived : List ℕ → ℕ → List ℕ
+eoiReceived t v = onEntries (acknowledged v) 24 t
 
 -- ---- 11.3: ioapic-sample, and what ioapic-deliver does to the I/O APIC
 

@@ -18,7 +18,7 @@ fn broadcast(t: &mut [u32], n: usize, i: usize, m: Ipi)
     while j < n {
         let a = layout::HEADER_WORDS + layout::BLOCK_WORDS * j;
         let e = a + layout::BLOCK_WORDS;
-        active::reach(&mut t[a..e], j == i, m);
+        active::receive(&mut t[a..e], j == i, m);
         j += 1;
     }
 }

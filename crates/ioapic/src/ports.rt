@@ -40,7 +40,7 @@ fn window(t: &mut [u32], v: u32)
 // A word written at port byte a.
 pub fn write(t: &mut [u32], a: usize, v: u32)
     requires { ⌜ (32 ≤ length (now t)) × (s.writes a v ≡ true) ⌝ }
-    ensures { λ _. ⌜ now (t .exit) ≡ s.written (now (t .entry)) a v ⌝ }
+    ensures { λ _. ⌜ now (t .exit) ≡ s.ioWritten (now (t .entry)) a v ⌝ }
 {
     if a == 0 {
         select(t, v);
@@ -61,7 +61,7 @@ fn acknowledged(e: u32, v: u32) -> u32
 // An EOI message for vector v.
 pub fn end(t: &mut [u32], v: u32)
     requires { ⌜ 32 ≤ length (now t) ⌝ }
-    ensures { λ _. ⌜ now (t .exit) ≡ s.ended (now (t .entry)) v ⌝ }
+    ensures { λ _. ⌜ now (t .exit) ≡ s.eoiReceived (now (t .entry)) v ⌝ }
 {
     let mut i = 0;
     while i < 24 {

@@ -10,10 +10,10 @@ use borrow.Author.Tests.{eqb-true, ne-eqb, le-ltb}
 use Rattle.word.specs.Word.{if_then_else_, isSet, flag}
 use Rattle.word.proofs.Tests.{and-false, truth}
 use Rattle.decode.specs.declared.Load.the-variants.{Lh, Lw, Lhu}
-use Rattle.decode.specs.declared.Store.the-variants.{Sh, Sw}
+use Rattle.decode.specs.declared.StoreWidth.the-variants.{Sh, Sw}
 use Rattle.decode.specs.declared.System.the-variants.{Cas}
 use Rattle.decode.specs.declared.Instruction.{Instruction}
-use Rattle.decode.specs.Mnemonics.{number, among, ill, alu, sysc}
+use Rattle.decode.specs.Mnemonics.{number, oneOf, ill, alu, sysc}
 use Rattle.decode.proofs.Numbers.{every}
 use Rattle.decode.proofs.Ranges.{agree, ill-number, sysc-number, alu-range}
 use Rattle.isa.specs.Core.{d, mal}
@@ -43,16 +43,16 @@ width-number i =
     (truth (eqb (d i) (widthAt (number i))) (every (λ (j : Instruction). eqb (d j) (widthAt (number j))) tt i))
 
 -- an access is misaligned by its width alone
-words-width : (i : Instruction) → among i (Instruction.Load Lw ∷ Instruction.Store Sw ∷ Instruction.System Cas ∷ []) ≡ eqb (d i) 4
+words-width : (i : Instruction) → oneOf i (Instruction.Load Lw ∷ Instruction.Store Sw ∷ Instruction.System Cas ∷ []) ≡ eqb (d i) 4
 unfolding d
 words-width =
-    agree (λ (i : Instruction). among i (Instruction.Load Lw ∷ Instruction.Store Sw ∷ Instruction.System Cas ∷ []))
+    agree (λ (i : Instruction). oneOf i (Instruction.Load Lw ∷ Instruction.Store Sw ∷ Instruction.System Cas ∷ []))
     (λ (i : Instruction). eqb (d i) 4) tt
 
-halves-width : (i : Instruction) → among i (Instruction.Load Lhu ∷ Instruction.Load Lh ∷ Instruction.Store Sh ∷ []) ≡ eqb (d i) 2
+halves-width : (i : Instruction) → oneOf i (Instruction.Load Lhu ∷ Instruction.Load Lh ∷ Instruction.Store Sh ∷ []) ≡ eqb (d i) 2
 unfolding d
 halves-width =
-    agree (λ (i : Instruction). among i (Instruction.Load Lhu ∷ Instruction.Load Lh ∷ Instruction.Store Sh ∷ []))
+    agree (λ (i : Instruction). oneOf i (Instruction.Load Lhu ∷ Instruction.Load Lh ∷ Instruction.Store Sh ∷ []))
     (λ (i : Instruction). eqb (d i) 2) tt
 
 pub mal-width : (i : Instruction) (a : ℕ) → (eqb (d i) 4 && not (eqb (a % 2 ^ 2) 0)) || (eqb (d i) 2 && not (eqb (a % 2) 0)) ≡ mal i a

@@ -13,21 +13,21 @@ use Rattle.word.proofs.Laws.{sxt-lt}
 use Rattle.word.proofs.Words.{if-both, if-lt, set-below}
 use Rattle.layout.specs.Layout as at
 use Rattle.decode.specs.declared.Load.the-variants.{Lb, Lh, Lw, Lbu, Lhu}
-use Rattle.decode.specs.declared.Store.the-variants.{Sb, Sh, Sw}
+use Rattle.decode.specs.declared.StoreWidth.the-variants.{Sb, Sh, Sw}
 use Rattle.decode.specs.declared.System.the-variants.{Cas}
 use Rattle.decode.specs.declared.Jump.the-variants.{Jr, Jalr}
 use Rattle.decode.specs.declared.Instruction.{Instruction}
 use Rattle.decode.specs.Fields.{rs, rt, rd, sa, imm, iindex}
 use Rattle.decode.specs.Table.{decoded}
-use Rattle.decode.specs.Mnemonics.{among, itype, rtype, alu, mulacc, b, load, cas, jal, jalr, movg2s, movs2g, mfhi, mflo, mthi, mtlo, mul}
+use Rattle.decode.specs.Mnemonics.{oneOf, itype, rtype, alu, mulacc, b, load, cas, jal, jalr, movg2s, movs2g, mfhi, mflo, mthi, mtlo, mul}
 use Rattle.units.specs.Alu.{alucon}
 use Rattle.units.specs.Multiplication.{mulcon}
 use Rattle.units.specs.Shift.{sf}
 use Rattle.units.proofs.Results.{alures-lt, mures-lt, sures-lt}
 use Rattle.isa.specs.declared.registers.Registers.{Registers}
 use Rattle.isa.specs.declared.interrupts.Events.{Events}
-use Rattle.isa.specs.Core.{gprAt, sprAt, after, rop, mres, jbtaken, btarget, sdist, slop, ea, d, lv, gprw, cad, gprdin, putAt, effect, deltaInstr}
-use Rattle.isa.specs.Interrupts.{mca, deltaJisr, deltaRfe, continues, il, eaAt, edata}
+use Rattle.isa.specs.Core.{gprAt, sprAt, nextPc, rop, mres, jbtaken, btarget, sdist, slop, ea, d, lv, gprw, cad, gprdin, putAt, effect, deltaInstr}
+use Rattle.isa.specs.Interrupts.{mca, deltaJisr, deltaRfe, continues, il, eaAt, edataOf}
 -- for the crates above
 pub use Rattle.word.proofs.Words.{Words, cons-below, append-below, take-below, drop-below}
 
@@ -36,9 +36,9 @@ pub use Rattle.word.proofs.Words.{Words, cons-below, append-below, take-below, 
 d-few : (i : Instruction) → d i < 5
 unfolding d
 d-few i =
-    if-lt (among i (Instruction.Load Lb ∷ Instruction.Load Lbu ∷ Instruction.Store Sb ∷ [])) 1 _ (omega arith)
-    (if-lt (among i (Instruction.Load Lh ∷ Instruction.Load Lhu ∷ Instruction.Store Sh ∷ [])) 2 _ (omega arith)
-    (if-lt (among i (Instruction.Store Sw ∷ Instruction.Load Lw ∷ Instruction.System Cas ∷ [])) 4 0 (omega arith) (omega arith)))
+    if-lt (oneOf i (Instruction.Load Lb ∷ Instruction.Load Lbu ∷ Instruction.Store Sb ∷ [])) 1 _ (omega arith)
+    (if-lt (oneOf i (Instruction.Load Lh ∷ Instruction.Load Lhu ∷ Instruction.Store Sh ∷ [])) 2 _ (omega arith)
+    (if-lt (oneOf i (Instruction.Store Sw ∷ Instruction.Load Lw ∷ Instruction.System Cas ∷ [])) 4 0 (omega arith) (omega arith)))
 
 lv-lt : (i : Instruction) (R : ℕ) → lv i R < 2 ^ 32
 unfolding lv
@@ -47,7 +47,7 @@ lv-lt i R =
     let l : k ≤ 32 = omega (arith, d-few i) in
     let p : R % 2 ^ k < 2 ^ k = mod-lt R (pow-pos k) in
     let q : 2 ^ k ≤ 2 ^ 32 = pow-le-pow-right {n = 2} (omega arith) {i = k} {j = 32} l in
-    if-lt (among i (Instruction.Load Lbu ∷ Instruction.Load Lhu ∷ [])) (R % 2 ^ k) (sxt k (R % 2 ^ k)) (omega arith) (sxt-lt k (R % 2 ^ k) l p)
+    if-lt (oneOf i (Instruction.Load Lbu ∷ Instruction.Load Lhu ∷ [])) (R % 2 ^ k) (sxt k (R % 2 ^ k)) (omega arith) (sxt-lt k (R % 2 ^ k) l p)
 
 -- ---- registers
 
@@ -71,7 +71,7 @@ module _ (i : Instruction) (c : Registers) (w : ℕ) (C : RegisterWords c) where
   gprdin-lt : (R : ℕ) → gprdin i c w R < 2 ^ 32
   unfolding gprdin
   gprdin-lt R =
-      if-lt (jal i || jalr i) (after c) _ (omega arith)
+      if-lt (jal i || jalr i) (nextPc c) _ (omega arith)
       (if-lt (load i || cas i) _ _ (lv-lt i R)
       (if-lt (movs2g i) _ _ (C .special (rd w))
       (if-lt (mfhi i) _ _ (C .high)
@@ -83,7 +83,7 @@ module _ (i : Instruction) (c : Registers) (w : ℕ) (C : RegisterWords c) where
   target-lt : btarget i c w < 2 ^ 32
   target-lt =
       if-lt (b i) (plus 32 (c .pc) (sll (sxt 16 (imm w)) 2)) _ (omega arith)
-      (if-lt (among i (Instruction.Jump Jr ∷ Instruction.Jump Jalr ∷ [])) (gprAt c (rs w)) (after c / 2 ^ 28 * 2 ^ 28 + iindex w * 2 ^ 2) (C .general (rs w)) (omega arith))
+      (if-lt (oneOf i (Instruction.Jump Jr ∷ Instruction.Jump Jalr ∷ [])) (gprAt c (rs w)) (nextPc c / 2 ^ 28 * 2 ^ 28 + iindex w * 2 ^ 2) (C .general (rs w)) (omega arith))
 
   pub effect-words : (R : ℕ) → RegisterWords (effect i c w R)
   effect-words R =
@@ -91,7 +91,7 @@ module _ (i : Instruction) (c : Registers) (w : ℕ) (C : RegisterWords c) where
       record {
         general = if-both Words (gprw i) (putAt (c .gpr) (cad i w) v) (c .gpr) (if-both Words (eqb (cad i w) 0) (c .gpr) (set (c .gpr) (cad i w) v) (C .general) (set-below (c .gpr) (cad i w) v (C .general) (gprdin-lt R))) (C .general);
         special = if-both Words (movg2s i) (set (c .spr) (rd w) (gprAt c (rt w))) (c .spr) (set-below (c .spr) (rd w) (gprAt c (rt w)) (C .special) (C .general (rt w))) (C .special);
-        counter = if-lt (jbtaken i c w) (btarget i c w) (after c) target-lt (omega arith);
+        counter = if-lt (jbtaken i c w) (btarget i c w) (nextPc c) target-lt (omega arith);
         high = if-lt (mulacc i) (mres c w / 2 ^ 32) _ (omega (arith, mres-lt)) (if-lt (mthi i) _ _ (C .general (rs w)) (if-lt (mul i) _ _ (C .high) (C .high)));
         low = if-lt (mulacc i) (mres c w % 2 ^ 32) _ (omega arith) (if-lt (mtlo i) _ _ (C .general (rs w)) (if-lt (mul i) _ _ (C .low) (C .low)));
       }
@@ -113,7 +113,7 @@ jisr-words c w R ca k hc hk C =
     let E : RegisterWords (effect (decoded w) c w R) = effect-words (decoded w) c w C R in
     let pc : ℕ = if continues (il ca) then effect (decoded w) c w R .pc else c .pc in
     let hp : pc < 2 ^ 32 = if-lt (continues (il ca)) (effect (decoded w) c w R .pc) (c .pc) (E .counter) (C .counter) in
-    let x : ℕ = edata c (il ca) (eaAt c w) k in
+    let x : ℕ = edataOf c (il ca) (eaAt c w) k in
     let hx : x < 2 ^ 32 = if-lt (eqb (il ca) 5) (eaAt c w) _ (ea-lt (decoded w) c w C) (if-lt (eqb (il ca) 1) k (sprAt c at.edata) hk (C .special at.edata)) in
     let s₁ : List ℕ = set (c .spr) at.sr 0 in
     let s₂ : List ℕ = set s₁ at.esr (sprAt c at.sr) in

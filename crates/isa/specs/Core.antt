@@ -8,13 +8,13 @@ use lib.Dec.{eqb}
 use lib.ListN.{getD, set}
 use Rattle.word.specs.Word.{if_then_else_, isSet, plus, sxt, sll}
 use Rattle.decode.specs.declared.Load.the-variants.{Lb, Lh, Lw, Lbu, Lhu}
-use Rattle.decode.specs.declared.Store.the-variants.{Sb, Sh, Sw}
+use Rattle.decode.specs.declared.StoreWidth.the-variants.{Sb, Sh, Sw}
 use Rattle.decode.specs.declared.System.the-variants.{Cas}
 use Rattle.decode.specs.declared.Jump.the-variants.{Jr, Jalr}
 use Rattle.decode.specs.declared.Instruction.{Instruction}
 use Rattle.decode.specs.Fields.{rs, rt, rd, sa, imm, iindex}
 use Rattle.decode.specs.Table.{decoded}
-use Rattle.decode.specs.Mnemonics.{among, itype, rtype, alu, mulacc, b, jump, su, load, cas, jal, jalr, movg2s, movs2g, mfhi, mflo, mthi, mtlo, mul}
+use Rattle.decode.specs.Mnemonics.{oneOf, itype, rtype, alu, mulacc, b, jump, su, load, cas, jal, jalr, movg2s, movs2g, mfhi, mflo, mthi, mtlo, mul}
 use Rattle.units.specs.Alu.{alures, alucon}
 use Rattle.units.specs.Multiplication.{mures, mulcon}
 use Rattle.units.specs.Branch.{bcres, bcon}
@@ -33,8 +33,8 @@ abbrev pub putAt : List ℕ → ℕ → ℕ → List ℕ
 putAt l x v = if eqb x 0 then l else set l x v
 
 -- c.pc +32 4
-abbrev pub after : Registers → ℕ
-after c = plus 32 (c .pc) 4
+abbrev pub nextPc : Registers → ℕ
+nextPc c = plus 32 (c .pc) 4
 
 -- ---- operands and results
 
@@ -62,8 +62,8 @@ jbtaken i c w = jump i || (b i && bcres (gprAt c (rs w)) (gprAt c (rt w)) (bcon 
 abbrev pub btarget : Instruction → Registers → ℕ → ℕ
 btarget i c w =
     if b i then plus 32 (c .pc) (sll (sxt 16 (imm w)) 2)
-    else if among i (Instruction.Jump Jr ∷ Instruction.Jump Jalr ∷ []) then gprAt c (rs w)
-    else after c / 2 ^ 28 * 2 ^ 28 + iindex w * 2 ^ 2
+    else if oneOf i (Instruction.Jump Jr ∷ Instruction.Jump Jalr ∷ []) then gprAt c (rs w)
+    else nextPc c / 2 ^ 28 * 2 ^ 28 + iindex w * 2 ^ 2
 
 -- definition 38; fun[2] tells the distances apart, not fun[3], which is 0 in all six shifts
 abbrev pub sdist : Registers → ℕ → ℕ
@@ -83,21 +83,21 @@ ea i c w = eaOf (itype i) c w
 
 unfoldable pub d : Instruction → ℕ
 d i =
-    if among i (Instruction.Load Lb ∷ Instruction.Load Lbu ∷ Instruction.Store Sb ∷ []) then 1
-    else if among i (Instruction.Load Lh ∷ Instruction.Load Lhu ∷ Instruction.Store Sh ∷ []) then 2
-    else if among i (Instruction.Store Sw ∷ Instruction.Load Lw ∷ Instruction.System Cas ∷ []) then 4
+    if oneOf i (Instruction.Load Lb ∷ Instruction.Load Lbu ∷ Instruction.Store Sb ∷ []) then 1
+    else if oneOf i (Instruction.Load Lh ∷ Instruction.Load Lhu ∷ Instruction.Store Sh ∷ []) then 2
+    else if oneOf i (Instruction.Store Sw ∷ Instruction.Load Lw ∷ Instruction.System Cas ∷ []) then 4
     else 0
 
 -- definition 41, at the effective address a
 unfoldable pub mal : Instruction → ℕ → Bool
 mal i a =
-    (among i (Instruction.Load Lw ∷ Instruction.Store Sw ∷ Instruction.System Cas ∷ []) && not (eqb (a % 2 ^ 2) 0))
-    || (among i (Instruction.Load Lhu ∷ Instruction.Load Lh ∷ Instruction.Store Sh ∷ []) && not (eqb (a % 2) 0))
+    (oneOf i (Instruction.Load Lw ∷ Instruction.Store Sw ∷ Instruction.System Cas ∷ []) && not (eqb (a % 2 ^ 2) 0))
+    || (oneOf i (Instruction.Load Lhu ∷ Instruction.Load Lh ∷ Instruction.Store Sh ∷ []) && not (eqb (a % 2) 0))
 
 -- definition 43; R is the d(I) bytes that were read, of a longer number the low ones
 unfoldable pub lv : Instruction → ℕ → ℕ
 lv i R =
-    if among i (Instruction.Load Lbu ∷ Instruction.Load Lhu ∷ []) then R % 2 ^ (8 * d i)
+    if oneOf i (Instruction.Load Lbu ∷ Instruction.Load Lhu ∷ []) then R % 2 ^ (8 * d i)
     else sxt (8 * d i) (R % 2 ^ (8 * d i))
 
 -- definition 44
@@ -121,7 +121,7 @@ cad i w = if jal i then 31 else rdes i w
 -- definition 48
 unfoldable pub gprdin : Instruction → Registers → ℕ → ℕ → ℕ
 gprdin i c w R =
-    if jal i || jalr i then after c
+    if jal i || jalr i then nextPc c
     else if load i || cas i then lv i R
     else if movs2g i then sprAt c (rd w)
     else if mfhi i then c .hi
@@ -143,7 +143,7 @@ effect i c w R =
     record {
       gpr = if gprw i then putAt (c .gpr) (cad i w) (gprdin i c w R) else c .gpr;
       spr = if movg2s i then set (c .spr) (rd w) (gprAt c (rt w)) else c .spr;
-      pc = if jbtaken i c w then btarget i c w else after c;
+      pc = if jbtaken i c w then btarget i c w else nextPc c;
       hi = if mulacc i then mres c w / 2 ^ 32 else if mthi i then gprAt c (rs w) else if mul i then hiAfterMul c else c .hi;
       lo = if mulacc i then mres c w % 2 ^ 32 else if mtlo i then gprAt c (rs w) else if mul i then loAfterMul c else c .lo;
     }

@@ -13,7 +13,7 @@ use Rattle.steps.specs.declared.Answer.the-variants.{Done, Interrupt, Refused}
 use Rattle.machine.specs.declared.run.Stop.{Stop}
 use Rattle.machine.specs.declared.run.Stop.the-variants as stop
 use Rattle.machine.specs.Step.{isAccepted, Stepped, step}
-use Rattle.machine.specs.Run.{Result, stopped, stopOf, runFrom}
+use Rattle.machine.specs.Run.{Result, stopsWith, stopOf, runFrom}
 
 -- the tables and the memory after the first k steps of a schedule, each a single step
 pub tablesBy : ℕ → List ℕ → List ℕ → List ℕ → List ℕ
@@ -41,7 +41,7 @@ module _ (s t m : List ℕ) (n : ℕ) where
   abbrev next : Stepped
   next = step t m (take 6 s)
 
-  ended : (w : Stop) → stepsOf w 0 ≡ 0 → Counts s t m n (stopped n w t m)
+  ended : (w : Stop) → stepsOf w 0 ≡ 0 → Counts s t m n (stopsWith n w t m)
   unfolding tablesBy memoryBy
   ended w e =
       record {
@@ -67,13 +67,13 @@ module _ (s t m : List ℕ) (n : ℕ) where
       later stop.Limit d = refl
 
   by-answer : (a : Answer) {r : Result} → Counts (drop 6 s) (next .tables) (next .memory) (n + 1) r →
-      Counts s t m n (if isAccepted a then r else stopped n (stopOf a) (next .tables) (next .memory))
+      Counts s t m n (if isAccepted a then r else stopsWith n (stopOf a) (next .tables) (next .memory))
   unfolding tablesBy memoryBy
   by-answer (Refused x) C = record { done = 0; count = omega arith; same-tables = refl; same-memory = refl }
   by-answer Done C = one-more C
   by-answer (Interrupt l) C = one-more C
 
-  by-limit : (b : Bool) {r : Result} → Counts s t m n r → Counts s t m n (if b then stopped n stop.Limit t m else r)
+  by-limit : (b : Bool) {r : Result} → Counts s t m n r → Counts s t m n (if b then stopsWith n stop.Limit t m else r)
   by-limit true C = ended stop.Limit refl
   by-limit false C = C
 

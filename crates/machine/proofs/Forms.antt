@@ -11,7 +11,7 @@ use Rattle.records.proofs.Counts.{and-left, and-right, and-both}
 use Rattle.steps.specs.declared.Step.{Step}
 use Rattle.steps.specs.declared.Step.the-variants.{Core, TlbCreate, TlbExtend, TlbAccessed, StoreBuffer, SendIpi, SendEoi, InitCore, StartCore, Sample, Deliver, SetLine, NotAStep}
 use Rattle.machine.specs.Split.{formed}
-use Rattle.steps.specs.Form.{stepOf, orNot, coreStep, lineStep, word, zero2, zero3, zero4, zero5}
+use Rattle.steps.specs.Form.{stepOf, orNot, stepOfCore, stepOfLine, word, zero2, zero3, zero4, zero5}
 
 module _ (n : ℕ) where
   by-if : (t : Bool) (x y : Step) → (t ≡ true → formed n x ≡ true) → formed n y ≡ true → formed n (if t then x else y) ≡ true
@@ -21,7 +21,7 @@ module _ (n : ℕ) where
   or-not : (t : Bool) (x : Step) → (t ≡ true → formed n x ≡ true) → formed n (orNot t x) ≡ true
   or-not t x p = by-if t x NotAStep p refl
 
-  core-formed : (kind k : ℕ) (s : List ℕ) → ltb k n ≡ true → formed n (coreStep kind k s) ≡ true
+  core-formed : (kind k : ℕ) (s : List ℕ) → ltb k n ≡ true → formed n (stepOfCore kind k s) ≡ true
   core-formed kind k s h =
       by-if (eqb kind 0) _ _ (λ e. h)
       (by-if (eqb kind 1) _ _
@@ -33,7 +33,7 @@ module _ (n : ℕ) where
       (by-if (eqb kind 6) _ _ (λ e. or-not (zero2 s) _ (λ f. h))
       (by-if (eqb kind 7) _ _ (λ e. or-not (zero2 s) _ (λ f. h)) (or-not (zero2 s) (StartCore k) (λ f. h)))))))))
 
-  line-formed : (kind l : ℕ) (s : List ℕ) → ltb l 24 ≡ true → formed n (lineStep kind l s) ≡ true
+  line-formed : (kind l : ℕ) (s : List ℕ) → ltb l 24 ≡ true → formed n (stepOfLine kind l s) ≡ true
   line-formed kind l s h =
       by-if (eqb kind 9) _ _ (λ e. or-not (zero2 s) _ (λ f. h))
       (by-if (eqb kind 10) _ _ (λ e. or-not (zero2 s) _ (λ f. h))
@@ -43,10 +43,10 @@ module _ (n : ℕ) where
   unfolding stepOf
   step-formed s =
       by-if (eqb (length s) 6) _ NotAStep
-      (λ e. by-if (ltb (word s 0) 9) (orNot (ltb (word s 1) n) (coreStep (word s 0) (word s 1) s)) _
-      (λ f. or-not (ltb (word s 1) n) (coreStep (word s 0) (word s 1) s) (core-formed (word s 0) (word s 1) s))
-      (by-if (ltb (word s 0) 12) (orNot (ltb (word s 1) 24) (lineStep (word s 0) (word s 1) s)) NotAStep
-      (λ f. or-not (ltb (word s 1) 24) (lineStep (word s 0) (word s 1) s) (line-formed (word s 0) (word s 1) s)) refl))
+      (λ e. by-if (ltb (word s 0) 9) (orNot (ltb (word s 1) n) (stepOfCore (word s 0) (word s 1) s)) _
+      (λ f. or-not (ltb (word s 1) n) (stepOfCore (word s 0) (word s 1) s) (core-formed (word s 0) (word s 1) s))
+      (by-if (ltb (word s 0) 12) (orNot (ltb (word s 1) 24) (stepOfLine (word s 0) (word s 1) s)) NotAStep
+      (λ f. or-not (ltb (word s 1) 24) (stepOfLine (word s 0) (word s 1) s) (line-formed (word s 0) (word s 1) s)) refl))
       refl
 
   -- of a step whose kind is known

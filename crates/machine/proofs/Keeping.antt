@@ -25,11 +25,11 @@ use Rattle.tables.proofs.Lift.{header, core-fits, core-long, core-sound, with-s
 use Rattle.apic.specs.declared.active.Ipi.{Ipi}
 use Rattle.apic.specs.Vectors.{withBit}
 use Rattle.apic.specs.LocalApic.{idOf, fixed, irr}
-use Rattle.apic.specs.Active.{idle, reached, eoiSent, initCore, startCore}
+use Rattle.apic.specs.Active.{idle, receivedBy, eoiSent, initCore, startCore}
 use Rattle.apic.proofs.Bits.{put-below}
 use Rattle.apic.proofs.Kept.{Kept, Passive, Reset, kept-all, kept-if, kept-vector, kept-idle, kept-reached, kept-initCore, kept-startCore}
 use Rattle.ioapic.specs.Blocks.{onBlock, onBlocks}
-use Rattle.ioapic.specs.IoApic.{entry, withEntry, dest, vect, rirr, ds, onEntries, acknowledged, ended, sampled, handed}
+use Rattle.ioapic.specs.IoApic.{entry, withEntry, dest, vect, rirr, ds, onEntries, acknowledged, eoiReceived, sampled, handed}
 use Rattle.ioapic.specs.Bus.{broadcast, sendIpi, sendEoi, deliver}
 use Rattle.steps.specs.declared.Answer.{Answer}
 use Rattle.steps.specs.declared.Answer.the-variants as answer
@@ -155,10 +155,10 @@ module _ (t : List ℕ) (n : ℕ) (e : sound t n ≡ true) where
   ipi-keeps k i h v =
       let K = on-block n idle (passive n idle kept-idle) t e k h in
       keeps-then K
-      (on-blocks n (λ (j : ℕ) (b : List ℕ). reached i (eqb j k) b) (λ j. passive n (reached i (eqb j k)) (λ b. kept-reached b i (eqb j k) v)) (onBlock idle k t) (K .is-sound) (coresOf t) (omega (arith, K .cores)))
+      (on-blocks n (λ (j : ℕ) (b : List ℕ). receivedBy i (eqb j k) b) (λ j. passive n (receivedBy i (eqb j k)) (λ b. kept-reached b i (eqb j k) v)) (onBlock idle k t) (K .is-sound) (coresOf t) (omega (arith, K .cores)))
 
   pub eoi-keeps : (k v : ℕ) → k < coresOf t → v < 256 → Keeps n t (sendEoi k v t)
-  unfolding sendEoi ended
+  unfolding sendEoi eoiReceived
   eoi-keeps k v h l =
       let f : List ℕ → List ℕ = λ b. eoiSent b v in
       let K = on-block n f (passive n f (λ b. kept-vector b at.eoipending v 0 (omega arith) (omega arith) l (omega arith))) t e k h in
@@ -230,7 +230,7 @@ memory-long (SetLine l v) m = refl
 -- ---- the action that is decided
 
 module _ (t m : List ℕ) (e : sound t (length m) ≡ true) where
-  plan-keeps : (k : ℕ) (p : Plan) → k < coresOf t → MayBeDone (length m) (block t k) p → Keeps (length m) t (cores.tablesAfter k p t)
+  plan-keeps : (k : ℕ) (p : Plan) → k < coresOf t → MayBeDone (length m) (block t k) p → Keeps (length m) t (cores.tablesByPlan k p t)
   plan-keeps k p l D =
       let fits = core-fits t (length m) e k l in
       let long = plan-long t m k p e l D in
@@ -238,7 +238,7 @@ module _ (t m : List ℕ) (e : sound t (length m) ≡ true) where
         long = tables-long k p t fits long;
         cores = tables-local k p t fits long at.cores (inl (omega arith)) (inl (omega arith));
         count = tables-local k p t fits long at.refusals (inl (omega arith)) (inl (omega arith));
-        is-sound = subst (λ (n : ℕ). sound (cores.tablesAfter k p t) n ≡ true) (written-long (p .write) m) (plan-sound t m k p e l D);
+        is-sound = subst (λ (n : ℕ). sound (cores.tablesByPlan k p t) n ≡ true) (written-long (p .write) m) (plan-sound t m k p e l D);
       }
 
   action-keeps : (a : Action) → Able t m a → Keeps (length m) t (tablesAfter a t)

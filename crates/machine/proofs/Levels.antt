@@ -14,7 +14,7 @@ use Rattle.decode.specs.declared.Instruction.{Instruction}
 use Rattle.decode.specs.Table.{decoded}
 use Rattle.decode.specs.Mnemonics.{load, store}
 use Rattle.isa.specs.declared.interrupts.Events.{Events}
-use Rattle.isa.specs.Interrupts.{eventsAs, eventsWithout, mca, lowest, il, continues}
+use Rattle.isa.specs.Interrupts.{eventsAs, eventsWithout, mca, lowestBit, il, continues}
 use Rattle.records.specs.declared.Walk.{Walk}
 use Rattle.records.specs.declared.Store.{Store}
 use Rattle.records.specs.Records.{among, walks}
@@ -22,8 +22,8 @@ use Rattle.records.specs.Contents.{allThere}
 use Rattle.isa.specs.Core.{sprAt, ea, d}
 use Rattle.tlb.specs.declared.Entry.{Entry}
 use Rattle.tlb.specs.declared.Entry.the-variants.{Word, Missing}
-use Rattle.tlb.specs.declared.Verdict.{Verdict}
-use Rattle.tlb.specs.declared.Verdict.the-variants.{Faults, Passes, Undecided}
+use Rattle.tlb.specs.declared.Faulting.{Faulting}
+use Rattle.tlb.specs.declared.Faulting.the-variants.{Faults, Passes, Undecided}
 use Rattle.tlb.specs.declared.Decision.{Decision}
 use Rattle.tlb.specs.declared.Decision.the-variants as tlb
 use Rattle.tlb.specs.Walks.{pteA, pteP, ptea, pte, winit, wext, wextFault, set-d}
@@ -32,11 +32,11 @@ use Rattle.store_buffer.specs.declared.Read.{Read}
 use Rattle.store_buffer.specs.declared.Read.the-variants.{There, Nowhere}
 use Rattle.store_buffer.specs.declared.Loaded.{Loaded}
 use Rattle.store_buffer.specs.declared.Loaded.the-variants.{Value, Hazard}
-use Rattle.store_buffer.specs.declared.Target.{Target}
-use Rattle.store_buffer.specs.declared.Target.the-variants as to
+use Rattle.store_buffer.specs.declared.Place.{Place}
+use Rattle.store_buffer.specs.declared.Place.the-variants as to
 use Rattle.store_buffer.specs.declared.Oldest.{Oldest}
 use Rattle.store_buffer.specs.declared.Oldest.the-variants.{Empty, Leaves}
-use Rattle.store_buffer.specs.Leaving.{oldest, target}
+use Rattle.store_buffer.specs.Leaving.{oldest, placeOf}
 use Rattle.store_buffer.specs.System.{memoryByte, reads, loaded}
 use Rattle.ioapic.specs.IoApic.{writes}
 use Rattle.steps.specs.declared.Answer.{Answer}
@@ -52,7 +52,7 @@ use Rattle.cores.specs.Plans.{refused, done, interrupted, finished}
 use Rattle.cores.specs.Guards.{Judged, yield, anyOf, isFailure, isUndecided, settle}
 use Rattle.cores.specs.Walks.{adding, planned}
 use Rattle.cores.specs.Buffer.{leavesTo, onOldest, bufferStep}
-use Rattle.cores.specs.Core.{View, isEvent, vectorOf, physical, faultOf, dataRequestOf, fetchRequestOf, causes, causesWithout, stopped, storedFrom, plain, onLoad, onStore, onCas, performed, unlessSuppressed, withoutAccess, isAccess, onAddress, onData, onAccess, onInstruction, onWord, onFetchAddress, onFetch, fetch, judged, coreStep}
+use Rattle.cores.specs.Core.{View, isEvent, vectorOf, physical, faultOf, dataRequestOf, fetchRequestOf, causes, causesWithout, stopped, storedFrom, plain, onLoad, onStore, onCas, performed, unlessSuppressed, withoutAccess, isAccess, onAddress, onData, onAccess, onInstruction, onWord, onFetchAddress, onFetch, fetch, judged, corePlan}
 
 -- 01's levels, and its refusals of a step on sound tables
 unfoldable pub known : Answer → Bool
@@ -73,14 +73,14 @@ mca-lt e sr =
     (arith, flag-le (e .io && isSet sr 1), flag-le (e .ill), flag-le (e .mal), flag-le (e .pff), flag-le (e .pfls), flag-le (e .sysc), flag-le (e .ovf && isSet sr 7))
 
 -- the lowest bit of a word of j bits that is not zero
-lowest-lt : (k j n : ℕ) → 0 < n → n < 2 ^ j → j ≤ k → lowest k n < j
-unfolding lowest
+lowest-lt : (k j n : ℕ) → 0 < n → n < 2 ^ j → j ≤ k → lowestBit k n < j
+unfolding lowestBit
 lowest-lt zero zero n p q r = absurd (omega arith)
 lowest-lt zero (suc j) n p q r = absurd (omega arith)
 lowest-lt (suc k) zero n p q r = absurd (omega arith)
 lowest-lt (suc k) (suc j) n p q r = go (eqb (n % 2) 1) refl (λ h. lowest-lt k j (n / 2) h (omega (arith, q)) (omega arith))
   where
-    go : (t : Bool) → eqb (n % 2) 1 ≡ t → (0 < n / 2 → lowest k (n / 2) < j) → (if t then 0 else suc (lowest k (n / 2))) < suc j
+    go : (t : Bool) → eqb (n % 2) 1 ≡ t → (0 < n / 2 → lowestBit k (n / 2) < j) → (if t then 0 else suc (lowestBit k (n / 2))) < suc j
     go true e rest = omega arith
     go false e rest = let h = rest (omega (arith, eqb-false (n % 2) 1 e)) in omega (arith, h)
 
@@ -165,7 +165,7 @@ module _ (v : View) where
         let q = causes-lt i w false in
         unless-known w (causes v i w false) (performed v m i w (causes v i w false) a) q (performed-known m i w (causes v i w false) q a)
 
-    data-known : (i : Instruction) (w : ℕ) (x : Verdict) → known (onData v m wR i w x .effect .answer) ≡ true
+    data-known : (i : Instruction) (w : ℕ) (x : Faulting) → known (onData v m wR i w x .effect .answer) ≡ true
     unfolding onData known
     data-known i w Passes = address-known i w (physical v wR (ea i (v .core) w))
     data-known i w Faults = interrupt-known (causes v i w true) (omega arith) (causes-lt i w true)
@@ -186,7 +186,7 @@ module _ (v : View) where
     word-known (There w) = instruction-known (decoded w) w
     word-known Nowhere = refl
 
-    fetch-known : (wI : Walk) (x : Verdict) → known (onFetch v m wI wR x .effect .answer) ≡ true
+    fetch-known : (wI : Walk) (x : Faulting) → known (onFetch v m wI wR x .effect .answer) ≡ true
     unfolding onFetch onFetchAddress known
     fetch-known wI Passes = word-known (reads 4 (memoryByte m) (physical v wI (v .core .pc)))
     fetch-known wI Faults = interrupt-known (causesWithout v false true) (omega arith) (without-lt false true)
@@ -210,8 +210,8 @@ settle-known j h = go (anyOf isFailure (j .guards)) (anyOf isUndecided (j .guard
     go false true = refl
     go false false = h
 
-pub core-known : (v : View) (m : List ℕ) (wI wR : Walk) → known (coreStep v m wI wR .answer) ≡ true
-unfolding coreStep
+pub core-known : (v : View) (m : List ℕ) (wI wR : Walk) → known (corePlan v m wI wR .answer) ≡ true
+unfolding corePlan
 core-known v m wI wR = settle-known (judged v m wI wR) (judged-known v m wR wI)
 
 -- ---- the TLB's own steps
@@ -271,7 +271,7 @@ module _ (b m : List ℕ) (free : Bool) where
 
 -- ---- the store buffer
 
-leaves-known : (s : Store) (x : Target) → known (leavesTo s x .answer) ≡ true
+leaves-known : (s : Store) (x : Place) → known (leavesTo s x .answer) ≡ true
 unfolding leavesTo known
 leaves-known s (to.LocalPort a) = refl
 leaves-known s (to.IoPort a) = go (writes a (s .value))
@@ -289,4 +289,4 @@ buffer-known l n = go (oldest l)
   where
     go : (x : Oldest) → known (onOldest n x .answer) ≡ true
     go Empty = refl
-    go (Leaves s) = leaves-known s (target n s)
+    go (Leaves s) = leaves-known s (placeOf n s)

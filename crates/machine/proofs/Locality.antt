@@ -28,7 +28,7 @@ use Rattle.steps.specs.declared.Answer.{Answer}
 use Rattle.steps.specs.declared.Answer.the-variants as answer
 use Rattle.steps.specs.declared.Step.{Step}
 use Rattle.steps.specs.declared.Step.the-variants as kind
-use Rattle.steps.specs.Form.{stepOf, orNot, coreStep, lineStep, word, zero2, zero3, zero4, zero5, lineCount}
+use Rattle.steps.specs.Form.{stepOf, orNot, stepOfCore, stepOfLine, word, zero2, zero3, zero4, zero5, lineCount}
 use Rattle.tlb.specs.Steps.{createOn, extendOn, accessedOn}
 use Rattle.cores.specs.Core as core
 use Rattle.cores.specs.Walks.{planned}
@@ -57,7 +57,7 @@ pub data Plain (k : ℕ) : Step → Type 0 where
 
 -- its plan on the block b, beside IOREGSEL and IOWIN and the memory m
 abbrev pub planOf : {k : ℕ} {x : Step} → Plain k x → List ℕ → ℕ → ℕ → List ℕ → Plan
-planOf (runs v w) b select window m = core.coreStep (core.viewOf b select window) m v w
+planOf (runs v w) b select window m = core.corePlan (core.viewOf b select window) m v w
 planOf (create va h) b select window m = planned (walks b) (core.isFree b) (createOn b va)
 planOf (extend w) b select window m = planned (walks b) (core.isFree b) (extendOn b m w)
 planOf (accessed w) b select window m = planned (walks b) (core.isFree b) (accessedOn b m w)
@@ -73,8 +73,8 @@ pub form-same : (n : ℕ) (s : List ℕ) → word s 1 < n → stepOf n s ≡ for
 unfolding stepOf
 form-same n s h =
     ap (λ (t : Bool). if eqb (length s) 6 then
-    (if ltb (word s 0) 9 then orNot t (coreStep (word s 0) (word s 1) s)
-    else if ltb (word s 0) 12 then orNot (ltb (word s 1) lineCount) (lineStep (word s 0) (word s 1) s)
+    (if ltb (word s 0) 9 then orNot t (stepOfCore (word s 0) (word s 1) s)
+    else if ltb (word s 0) 12 then orNot (ltb (word s 1) lineCount) (stepOfLine (word s 0) (word s 1) s)
     else kind.NotAStep)
     else kind.NotAStep) (lt-ltb (word s 1) n h ∙ sym (lt-ltb (word s 1) (suc (word s 1)) (omega arith)))
 
@@ -86,7 +86,7 @@ by-test P false x y f g = g refl
 or-not : (k : ℕ) (t : Bool) (x : Step) → (t ≡ true → Plain k x) → Plain k (orNot t x)
 or-not k t x f = by-test (Plain k) t x kind.NotAStep f (λ _. none)
 
-core-form : (c k : ℕ) (s : List ℕ) → c ≤ 4 → Plain k (coreStep c k s)
+core-form : (c k : ℕ) (s : List ℕ) → c ≤ 4 → Plain k (stepOfCore c k s)
 core-form c k s h =
     by-test (Plain k) (eqb c 0) _ _ (λ _. runs _ _)
     (λ e₀. by-test (Plain k) (eqb c 1) _ _
@@ -101,8 +101,8 @@ unfolding stepOf
 plain-form s h =
     let c : word s 0 ≤ 4 = leb-true (word s 0) 4 h in
     by-test (Plain (word s 1)) (eqb (length s) 6) _ kind.NotAStep
-    (λ _. by-test (Plain (word s 1)) (ltb (word s 0) 9) (orNot (ltb (word s 1) (suc (word s 1))) (coreStep (word s 0) (word s 1) s)) _
-    (λ _. or-not (word s 1) (ltb (word s 1) (suc (word s 1))) (coreStep (word s 0) (word s 1) s) (λ _. core-form (word s 0) (word s 1) s c))
+    (λ _. by-test (Plain (word s 1)) (ltb (word s 0) 9) (orNot (ltb (word s 1) (suc (word s 1))) (stepOfCore (word s 0) (word s 1) s)) _
+    (λ _. or-not (word s 1) (ltb (word s 1) (suc (word s 1))) (stepOfCore (word s 0) (word s 1) s) (λ _. core-form (word s 0) (word s 1) s c))
     (λ e. absurd (true-false (sym (lt-ltb (word s 0) 9 (omega arith)) ∙ e))))
     (λ _. none)
 
@@ -114,7 +114,7 @@ pub record Law (t m : List ℕ) (k : ℕ) (p : Plan) (r : Stepped) : Type 0 wher
   pub own : block (r .tables) k ≡ commit.blockAfter p (block t k)
   pub others : (j : ℕ) → j ≢ k → j < coresOf t → block (r .tables) j ≡ block t j
   pub words : (i : ℕ) → i ≢ at.refusals → (i < at.ioregsel) ⊎ (29 < i) → (i < 32 + 256 * k) ⊎ (32 + 256 * k + 256 ≤ i) → getD (r .tables) i 0 ≡ getD t i 0
-  pub bytes : r .memory ≡ commit.memoryAfter p m
+  pub bytes : r .memory ≡ commit.memoryByPlan p m
   pub run : (r .memory ≡ m) ⊎ Run m (r .memory)
   pub cores : coresOf (r .tables) ≡ coresOf t
   pub is-sound : sound (r .tables) (length (r .memory)) ≡ true
@@ -146,7 +146,7 @@ module _ (t m : List ℕ) (e : sound t (length m) ≡ true) (k : ℕ) (h : k < c
   unfolding after tablesAfter memoryAfter
   plan-law p D = go (p .answer) refl
     where
-      done : Law t m k p (record { answer = p .answer; tables = commit.tablesAfter k p t; memory = commit.memoryAfter p m })
+      done : Law t m k p (record { answer = p .answer; tables = commit.tablesByPlan k p t; memory = commit.memoryByPlan p m })
       done =
           let fits = core-fits t (length m) e k h in
           let long = plan-long t m k p e h D in
@@ -162,8 +162,8 @@ module _ (t m : List ℕ) (e : sound t (length m) ≡ true) (k : ℕ) (h : k < c
           }
 
       go : (a : Answer) → p .answer ≡ a → Law t m k p (after a (Planned k p) t m)
-      go answer.Done q = subst (λ (a : Answer). Law t m k p (record { answer = a; tables = commit.tablesAfter k p t; memory = commit.memoryAfter p m })) q done
-      go (answer.Interrupt l) q = subst (λ (a : Answer). Law t m k p (record { answer = a; tables = commit.tablesAfter k p t; memory = commit.memoryAfter p m })) q done
+      go answer.Done q = subst (λ (a : Answer). Law t m k p (record { answer = a; tables = commit.tablesByPlan k p t; memory = commit.memoryByPlan p m })) q done
+      go (answer.Interrupt l) q = subst (λ (a : Answer). Law t m k p (record { answer = a; tables = commit.tablesByPlan k p t; memory = commit.memoryByPlan p m })) q done
       go (answer.Refused n) q = subst (λ (x : Plan). Law t m k x (record { answer = answer.Refused n; tables = counted t; memory = m })) (sym (D .is-still n q)) (refused-law n)
 
   -- the plan may be done: of the core's block it asks one word, of memory its bytes

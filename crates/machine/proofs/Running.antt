@@ -19,7 +19,7 @@ use Rattle.machine.specs.declared.run.Ran.{Ran}
 use Rattle.machine.specs.declared.run.Stop.{Stop}
 use Rattle.machine.specs.declared.run.Stop.the-variants as stop
 use Rattle.machine.specs.Step.{isAccepted, Stepped, taken, step}
-use Rattle.machine.specs.Run.{Result, Is, stopped, stopOf, onStep, runFrom, whole, run}
+use Rattle.machine.specs.Run.{Result, Is, stopsWith, stopOf, onStep, runFrom, whole, run}
 use Rattle.machine.proofs.Taking.{is-sound}
 use Rattle.machine.proofs.Keeping.{step-sound}
 
@@ -63,7 +63,7 @@ module _ {s : List ℕ} {limit : ℕ} {t₀ m₀ t m : List ℕ} {i n : ℕ} (R 
   pub few-accepted : n ≤ 1024
   few-accepted = omega (arith, R .place, R .within, R .few)
 
-  pub ends : (i < length s → ⊥) → stopped n stop.End t m ≡ whole-run
+  pub ends : (i < length s → ⊥) → stopsWith n stop.End t m ≡ whole-run
   unfolding runFrom
   ends h =
       let e : 0 ≡ length s / 6 - n = omega (arith, h, R .place, R .within, R .sixes) in
@@ -82,14 +82,14 @@ module _ {s : List ℕ} {limit : ℕ} {t₀ m₀ t m : List ℕ} {i n : ℕ} (R 
     abbrev remaining : Result
     remaining = runFrom (length s / 6 - (n + 1)) (drop 6 (drop i s)) limit (n + 1) (next .tables) (next .memory)
 
-    pub spent : n ≡ limit → stopped n stop.Limit t m ≡ whole-run
+    pub spent : n ≡ limit → stopsWith n stop.Limit t m ≡ whole-run
     unfolding runFrom
-    spent e = ap (λ b. if b then stopped n stop.Limit t m else onStep next n remaining) (sym (eq-eqb n limit e)) ∙ unrolled
+    spent e = ap (λ b. if b then stopsWith n stop.Limit t m else onStep next n remaining) (sym (eq-eqb n limit e)) ∙ unrolled
 
     module _ (l : n ≡ limit → ⊥) where
       goes-on : onStep next n remaining ≡ whole-run
       unfolding runFrom
-      goes-on = ap (λ b. if b then stopped n stop.Limit t m else onStep next n remaining) (sym (ne-eqb n limit l)) ∙ unrolled
+      goes-on = ap (λ b. if b then stopsWith n stop.Limit t m else onStep next n remaining) (sym (ne-eqb n limit l)) ∙ unrolled
 
       as-step : taken t m (take 6 (drop i s)) ≡ next
       as-step = is-sound t m (take 6 (drop i s)) (R .stays-sound)
@@ -104,10 +104,10 @@ module _ {s : List ℕ} {limit : ℕ} {t₀ m₀ t m : List ℕ} {i n : ℕ} (R 
         left-memory : m′ ≡ next .memory
         left-memory = c ∙ ap (λ x. x .memory) as-step
 
-        pub refused-there : isAccepted r ≡ false → stopped n (stopOf r) t′ m′ ≡ whole-run
+        pub refused-there : isAccepted r ≡ false → stopsWith n (stopOf r) t′ m′ ≡ whole-run
         refused-there f =
             rw (left-tables, left-memory, answered)
-            (ap (λ x. if x then remaining else stopped n (stopOf (next .answer)) (next .tables) (next .memory)) (sym (ap isAccepted (sym answered) ∙ f)) ∙ goes-on)
+            (ap (λ x. if x then remaining else stopsWith n (stopOf (next .answer)) (next .tables) (next .memory)) (sym (ap isAccepted (sym answered) ∙ f)) ∙ goes-on)
 
         pub accepted-there : isAccepted r ≡ true → Words t′ → Bytes m′ → Running s limit t₀ m₀ t′ m′ (i + 6) (n + 1)
         accepted-there f ws bs =
@@ -121,17 +121,17 @@ module _ {s : List ℕ} {limit : ℕ} {t₀ m₀ t m : List ℕ} {i n : ℕ} (R 
               bytes = bs;
               rest =
                   rw (left-tables, left-memory, ← (drop-drop 6 i s))
-                  (ap (λ x. if x then remaining else stopped n (stopOf (next .answer)) (next .tables) (next .memory)) (sym (ap isAccepted (sym answered) ∙ f)) ∙ goes-on);
+                  (ap (λ x. if x then remaining else stopsWith n (stopOf (next .answer)) (next .tables) (next .memory)) (sym (ap isAccepted (sym answered) ∙ f)) ∙ goes-on);
             }
 
 -- ---- the operation
 
 module _ (t m s : List ℕ) (limit : ℕ) where
-  pub not-sound-run : sound t (length m) ≡ false → stopped 0 (stop.Refused 4) t m ≡ run t m s limit
+  pub not-sound-run : sound t (length m) ≡ false → stopsWith 0 (stop.Refused 4) t m ≡ run t m s limit
   unfolding run
   not-sound-run e = rw (e) refl
 
-  pub not-whole-run : sound t (length m) ≡ true → whole s ≡ false → stopped 0 (stop.Refused 11) t m ≡ run t m s limit
+  pub not-whole-run : sound t (length m) ≡ true → whole s ≡ false → stopsWith 0 (stop.Refused 11) t m ≡ run t m s limit
   unfolding run
   not-whole-run e f = rw (e, f) refl
 
@@ -140,7 +140,7 @@ module _ (t m s : List ℕ) (limit : ℕ) where
   whole-is-run e f = rw (e, f) refl
 
 -- an answer that is a result
-pub same-result : {r : Ran} {t m : List ℕ} {n : ℕ} {w : Stop} {t′ m′ : List ℕ} {x : Result} → (r .accepted ≡ n) × (r .stop ≡ w) → t′ ≡ t → m′ ≡ m → stopped n w t m ≡ x → Is r t′ m′ x
+pub same-result : {r : Ran} {t m : List ℕ} {n : ℕ} {w : Stop} {t′ m′ : List ℕ} {x : Result} → (r .accepted ≡ n) × (r .stop ≡ w) → t′ ≡ t → m′ ≡ m → stopsWith n w t m ≡ x → Is r t′ m′ x
 same-result p q q′ e =
     record {
       same-accepted = p .0 ∙ ap (λ y. y .accepted) e;

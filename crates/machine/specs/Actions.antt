@@ -36,7 +36,7 @@ lineSet t l v = set t lines (withBit (linesOf t) l v)
 
 unfoldable pub tablesAfter : Action → List ℕ → List ℕ
 tablesAfter (Refused n) t = t
-tablesAfter (Planned k p) t = cores.tablesAfter k p t
+tablesAfter (Planned k p) t = cores.tablesByPlan k p t
 tablesAfter (SendIpi k m) t = sendIpi (coresOf t) k m t
 tablesAfter (SendEoi k v) t = sendEoi k v t
 tablesAfter (InitCore k) t = onBlock initCore k t
@@ -47,7 +47,7 @@ tablesAfter (SetLine l v) t = lineSet t l v
 
 unfoldable pub memoryAfter : Action → List ℕ → List ℕ
 memoryAfter (Refused n) m = m
-memoryAfter (Planned k p) m = cores.memoryAfter p m
+memoryAfter (Planned k p) m = cores.memoryByPlan p m
 memoryAfter (SendIpi k i) m = m
 memoryAfter (SendEoi k v) m = m
 memoryAfter (InitCore k) m = m

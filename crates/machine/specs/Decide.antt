@@ -19,7 +19,7 @@ use Rattle.ioapic.specs.IoApic.{maySample, mayDeliver}
 use Rattle.steps.specs.declared.Step.{Step}
 use Rattle.steps.specs.declared.Step.the-variants as kind
 use Rattle.steps.specs.Form.{stepOf}
-use Rattle.cores.specs.Core.{viewOf, isFree, coreStep}
+use Rattle.cores.specs.Core.{viewOf, isFree, corePlan}
 use Rattle.cores.specs.Walks.{planned}
 use Rattle.cores.specs.Buffer.{bufferStep}
 use Rattle.machine.specs.declared.action.Action.{Action}
@@ -42,7 +42,7 @@ toEnd k (Vector v) = SendEoi k v
 toEnd k None = Refused 6
 
 unfoldable pub byStep : List ℕ → List ℕ → Step → Action
-byStep t m (kind.Core k wI wR) = Planned k (coreStep (viewOf (block t k) (ioregselOf t) (iowinOf t)) m wI wR)
+byStep t m (kind.Core k wI wR) = Planned k (corePlan (viewOf (block t k) (ioregselOf t) (iowinOf t)) m wI wR)
 byStep t m (kind.TlbCreate k va) = plannedOn k (block t k) (createOn (block t k) va)
 byStep t m (kind.TlbExtend k w) = plannedOn k (block t k) (extendOn (block t k) m w)
 byStep t m (kind.TlbAccessed k w) = plannedOn k (block t k) (accessedOn (block t k) m w)

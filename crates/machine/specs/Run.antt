@@ -22,8 +22,8 @@ pub record Result : Type 0 where
   pub tables : List ℕ
   pub memory : List ℕ
 
-abbrev pub stopped : ℕ → Stop → List ℕ → List ℕ → Result
-stopped n w t m = record { accepted = n; why = w; tables = t; memory = m }
+abbrev pub stopsWith : ℕ → Stop → List ℕ → List ℕ → Result
+stopsWith n w t m = record { accepted = n; why = w; tables = t; memory = m }
 
 -- a refusal ends the run
 abbrev pub stopOf : Answer → Stop
@@ -33,13 +33,13 @@ stopOf (Interrupt l) = stop.End
 
 -- the rest follows any other answer
 abbrev pub onStep : Stepped → ℕ → Result → Result
-onStep r n rest = if isAccepted (r .answer) then rest else stopped n (stopOf (r .answer)) (r .tables) (r .memory)
+onStep r n rest = if isAccepted (r .answer) then rest else stopsWith n (stopOf (r .answer)) (r .tables) (r .memory)
 
 -- k steps are left in the schedule s, and n were accepted; the end is looked at before the limit
 unfoldable pub runFrom : ℕ → List ℕ → ℕ → ℕ → List ℕ → List ℕ → Result
-runFrom zero s limit n t m = stopped n stop.End t m
+runFrom zero s limit n t m = stopsWith n stop.End t m
 runFrom (suc k) s limit n t m =
-    if eqb n limit then stopped n stop.Limit t m
+    if eqb n limit then stopsWith n stop.Limit t m
     else onStep (step t m (take 6 s)) n
     (runFrom k (drop 6 s) limit (n + 1) (step t m (take 6 s) .tables) (step t m (take 6 s) .memory))
 
@@ -49,8 +49,8 @@ whole s = not (not (eqb (length s % 6) 0) || ltb 6144 (length s))
 
 unfoldable pub run : List ℕ → List ℕ → List ℕ → ℕ → Result
 run t m s limit =
-    if not (sound t (length m)) then stopped 0 (stop.Refused 4) t m
-    else if not (whole s) then stopped 0 (stop.Refused 11) t m
+    if not (sound t (length m)) then stopsWith 0 (stop.Refused 4) t m
+    else if not (whole s) then stopsWith 0 (stop.Refused 11) t m
     else runFrom (length s / 6) s limit 0 t m
 
 -- what the operation answers and leaves is a result

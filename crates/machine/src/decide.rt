@@ -32,7 +32,7 @@ fn core(t: &[u32], m: &[u8], k: u32, fetch: Walk, second: Walk) -> Plan
     requires { ⌜ 32 + 256 * k + 256 ≤ length (now t) ⌝ }
     requires { ⌜ soundRecords (length (now m)) (block (now t) k) ≡ true ⌝ }
     requires { ⌜ length (now m) % 4 ≡ 0 ⌝ }
-    ensures { λ r. ⌜ r ≡ c.coreStep (c.viewOf (block (now (t .entry)) k) (ioregselOf (now (t .entry))) (iowinOf (now (t .entry)))) (now (m .entry)) fetch second ⌝ }
+    ensures { λ r. ⌜ r ≡ c.corePlan (c.viewOf (block (now (t .entry)) k) (ioregselOf (now (t .entry))) (iowinOf (now (t .entry)))) (now (m .entry)) fetch second ⌝ }
 {
     let a = layout::HEADER_WORDS + layout::BLOCK_WORDS * (k as usize);
     let e = a + layout::BLOCK_WORDS;

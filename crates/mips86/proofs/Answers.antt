@@ -16,7 +16,7 @@ use Rattle.steps.specs.declared.Answer.the-variants.{Done, Interrupt, Refused}
 use Rattle.steps.specs.Answers.{answerNumber}
 use Rattle.machine.specs.declared.run.Stop.the-variants as stop
 use Rattle.machine.specs.Step.{isAccepted, taken, step}
-use Rattle.machine.specs.Run.{Result, stopped, stopOf, onStep, runFrom, whole, run}
+use Rattle.machine.specs.Run.{Result, stopsWith, stopOf, onStep, runFrom, whole, run}
 use Rattle.machine.proofs.Levels.{known}
 use Rattle.machine.proofs.Answers.{taken-known}
 use Rattle.mips86.specs.Numbers.{stopNumber}
@@ -44,7 +44,7 @@ answer-fits t m s = let h = step-lt t m s in omega (arith, h)
 
 -- ---- a run
 
-on-answer : (x : Answer) (n : ℕ) (t m : List ℕ) (rest : Result) → answerNumber x < 112 → stopNumber (rest .why) < 112 → stopNumber ((if isAccepted x then rest else stopped n (stopOf x) t m) .why) < 112
+on-answer : (x : Answer) (n : ℕ) (t m : List ℕ) (rest : Result) → answerNumber x < 112 → stopNumber (rest .why) < 112 → stopNumber ((if isAccepted x then rest else stopsWith n (stopOf x) t m) .why) < 112
 on-answer Done n t m rest e h = h
 on-answer (Interrupt l) n t m rest e h = h
 on-answer (Refused x) n t m rest e h = e
@@ -58,7 +58,7 @@ run-from (suc k) s limit n t m = go (eqb n limit) (run-from k (drop 6 s) limit (
     rest = runFrom k (drop 6 s) limit (n + 1) (step t m (take 6 s) .tables) (step t m (take 6 s) .memory)
 
     go : (b : Bool) → stopNumber (rest .why) < 112 →
-        stopNumber ((if b then stopped n stop.Limit t m else onStep (step t m (take 6 s)) n rest) .why) < 112
+        stopNumber ((if b then stopsWith n stop.Limit t m else onStep (step t m (take 6 s)) n rest) .why) < 112
     go true h = omega arith
     go false h = on-answer (step t m (take 6 s) .answer) n (step t m (take 6 s) .tables) (step t m (take 6 s) .memory) rest (step-lt t m (take 6 s)) h
 
@@ -67,7 +67,7 @@ unfolding run
 run-lt t m s limit = go (sound t (length m)) (whole s)
   where
     go : (b w : Bool) →
-        stopNumber ((if not b then stopped 0 (stop.Refused 4) t m else if not w then stopped 0 (stop.Refused 11) t m else runFrom (length s / 6) s limit 0 t m) .why) < 112
+        stopNumber ((if not b then stopsWith 0 (stop.Refused 4) t m else if not w then stopsWith 0 (stop.Refused 11) t m else runFrom (length s / 6) s limit 0 t m) .why) < 112
     go false w = omega arith
     go true false = omega arith
     go true true = run-from (length s / 6) s limit 0 t m

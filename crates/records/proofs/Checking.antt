@@ -14,7 +14,7 @@ use Rattle.layout.specs.Layout.{recordAt}
 use Rattle.word.specs.Word.{flag}
 use Rattle.records.specs.Records.{chain, chainAt, count, each, all, small}
 use Rattle.records.specs.declared.check.Rule.{Rule}
-use Rattle.records.specs.Rules.{obeys, fits, chainFits}
+use Rattle.records.specs.Rules.{obeys, fitsRule, chainFits}
 use Rattle.records.specs.Tallied.{Tallied}
 use Rattle.records.proofs.Counts.{either, and-left, and-both}
 use Rattle.records.proofs.Three.{count-cons}
@@ -87,7 +87,7 @@ pub record Tallying (b : List ℕ) (h : ℕ) (rule : Rule) (most : ℕ) (s t : L
   pub fuel : ℕ
   pub few : most < 32
   pub spare : k + 32 ≡ fuel + most
-  pub check : Checking (fits rule b) b h n fuel
+  pub check : Checking (fitsRule rule b) b h n fuel
   pub size : length (chain fuel b n) + most ≡ length (chainAt b h) + k
   pub long : length t ≡ 32
   pub counts : (m : ℕ) → m < 32 → getD t m 0 + count m (chain fuel b n) ≡ getD s m 0 + count m (chainAt b h)
@@ -100,7 +100,7 @@ module _ (b : List ℕ) (h : ℕ) (rule : Rule) (most : ℕ) (s : List ℕ) wher
         fuel = 32;
         few = w;
         spare = omega arith;
-        check = check-start (fits rule b) b h;
+        check = check-start (fitsRule rule b) b h;
         size = refl;
         long = l;
         counts = λ m p. refl;
@@ -117,7 +117,7 @@ module _ (b : List ℕ) (h : ℕ) (rule : Rule) (most : ℕ) (s : List ℕ) wher
           fuel = C .fuel - 1;
           few = C .few;
           spare = omega (arith, C .spare, some);
-          check = check-next (fits rule b) b h n (C .fuel) (C .check) some d (and-both (small n) (obeys rule b n) (lt-ltb n 32 l) o);
+          check = check-next (fitsRule rule b) b h n (C .fuel) (C .check) some d (and-both (small n) (obeys rule b n) (lt-ltb n 32 l) o);
           size = omega (arith, C .size, ap (λ (r : List ℕ). length r) step);
           long = length-set t n (getD t n 0 + 1) ∙ C .long;
           counts = λ m q. either (ℕ-discrete m n)
@@ -142,8 +142,8 @@ module _ (b : List ℕ) (h : ℕ) (rule : Rule) (most : ℕ) (s : List ℕ) wher
         record {
           long = C .long;
           result =
-              check-zero (fits rule b) b h n (C .fuel) (C .check) e
-              ∙ ap (λ (r : Bool). r && all (fits rule b) (chainAt b h)) (sym (le-leb (length (chainAt b h)) most (omega (arith, C .size, ap (λ (r : List ℕ). length r) none))));
+              check-zero (fitsRule rule b) b h n (C .fuel) (C .check) e
+              ∙ ap (λ (r : Bool). r && all (fitsRule rule b) (chainAt b h)) (sym (le-leb (length (chainAt b h)) most (omega (arith, C .size, ap (λ (r : List ℕ). length r) none))));
           counts = λ _ m q. omega (arith, C .counts m q, count-nil m (chain (C .fuel) b n) none);
         }
       where
@@ -155,11 +155,11 @@ module _ (b : List ℕ) (h : ℕ) (rule : Rule) (most : ℕ) (s : List ℕ) wher
 
     pub tally-many : n ≢ 0 → k ≡ 0 → Tallied b h rule most s t false
     tally-many d e =
-        fail (ap (λ (r : Bool). r && all (fits rule b) (chainAt b h))
+        fail (ap (λ (r : Bool). r && all (fitsRule rule b) (chainAt b h))
         (sym (lt-leb (length (chainAt b h)) most (omega (arith, C .size, ap (λ (r : List ℕ). length r) (chain-step (C .fuel) b n some d))))))
 
-    unfit : n ≢ 0 → fits rule b n ≡ false → Tallied b h rule most s t false
-    unfit d e = fail (and-false (leb (length (chainAt b h)) most) _ (check-fail (fits rule b) b h n (C .fuel) (C .check) some d e))
+    unfit : n ≢ 0 → fitsRule rule b n ≡ false → Tallied b h rule most s t false
+    unfit d e = fail (and-false (leb (length (chainAt b h)) most) _ (check-fail (fitsRule rule b) b h n (C .fuel) (C .check) some d e))
 
     pub tally-big : n ≢ 0 → 32 ≤ n → Tallied b h rule most s t false
     tally-big d l = unfit d (rw (le-ltb n 32 l))

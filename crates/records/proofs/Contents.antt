@@ -12,7 +12,7 @@ use Rattle.layout.specs.Layout.{storeHead, walkHead, freeHead}
 use Rattle.records.specs.Records.{all, chainAt, small, lastBlank, storeIn, walkIn, stores, walks, linked, onceEach, noOther, fewStores, fewWalks, freeBlank, walksBlank, firstBlank, differing}
 use Rattle.records.specs.Contents.{storeSound, walkSound, soundRecords}
 use Rattle.records.specs.declared.check.Rule.the-variants.{Blank, Store, Walk}
-use Rattle.records.specs.Rules.{obeys, fits, chainFits, ruled}
+use Rattle.records.specs.Rules.{obeys, fitsRule, chainFits, ruled}
 use Rattle.records.proofs.Counts.{and-left, and-right, and-both, all-append, all-both, all-left, all-right}
 use Rattle.records.proofs.Good.{parts, all-of}
 use Rattle.records.proofs.Whole.{fails, ruled-of, ruled-all}
@@ -82,13 +82,13 @@ module _ (n : ℕ) (b : List ℕ) where
     chains : (chainFits (Store n) 8 b storeHead ≡ true) × (chainFits Walk 23 b walkHead ≡ true) × (chainFits Blank 31 b freeHead ≡ true)
     chains = ruled-of n b (and-left (ruled n b) (onceEach b) e)
 
-    fit-stores : all (fits (Store n) b) (chainAt b storeHead) ≡ true
+    fit-stores : all (fitsRule (Store n) b) (chainAt b storeHead) ≡ true
     fit-stores = and-right (fewStores b) _ (chains .0)
 
-    fit-walks : all (fits Walk b) (chainAt b walkHead) ≡ true
+    fit-walks : all (fitsRule Walk b) (chainAt b walkHead) ≡ true
     fit-walks = and-right (fewWalks b) _ (chains .1)
 
-    fit-free : all (fits Blank b) (chainAt b freeHead) ≡ true
+    fit-free : all (fitsRule Blank b) (chainAt b freeHead) ≡ true
     fit-free = and-right (leb (length (chainAt b freeHead)) 31) _ (chains .2)
 
     walk-parts : all (obeys Walk b) (chainAt b walkHead) ≡ true

@@ -165,8 +165,8 @@ unfoldable pub withWalk : Walk → List Walk → List Walk
 withWalk w l = elim (among w l) [ true ↦ l | false ↦ w ∷ l ]
 
 -- a walk's first word is va * 4096 + asid * 64 + level * 8 + rights; its page and address space are one number, va * 64 + asid
-abbrev pub pageKey : ℕ → ℕ
-pageKey first = first / 64
+abbrev pub walkKey : ℕ → ℕ
+walkKey first = first / 64
 
 abbrev pub levelOf : ℕ → ℕ
 levelOf first = first / 8 % 4
@@ -174,8 +174,8 @@ levelOf first = first / 8 % 4
 -- definition 20, which walks a flush takes: all; those of a page and address space; those and the incomplete ones
 abbrev pub goes : Flush → ℕ → Bool
 goes All first = true
-goes (Page p) first = eqb (pageKey first) p
-goes (Incomplete p) first = not (eqb (levelOf first) 0) || eqb (pageKey first) p
+goes (Page p) first = eqb (walkKey first) p
+goes (Incomplete p) first = not (eqb (levelOf first) 0) || eqb (walkKey first) p
 
 -- over the records of a chain, whose first link stands in the word `at`: each whose first word is hit is released, one after the other
 unfoldable pub sweep : (ℕ → Bool) → List ℕ → ℕ → List ℕ → List ℕ

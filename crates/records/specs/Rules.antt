@@ -18,12 +18,12 @@ obeys (Store bytes) b n = storeSound bytes (storeIn b n)
 obeys Walk b n = walkSound (walkIn b n) && lastBlank b n
 
 -- a number of a chain is below 32, and its record obeys the rule
-abbrev pub fits : Rule → List ℕ → ℕ → Bool
-fits rule b n = small n && obeys rule b n
+abbrev pub fitsRule : Rule → List ℕ → ℕ → Bool
+fitsRule rule b n = small n && obeys rule b n
 
 -- a chain has at most `most` records, and each fits
 abbrev pub chainFits : Rule → ℕ → List ℕ → ℕ → Bool
-chainFits rule most b h = leb (length (chainAt b h)) most && all (fits rule b) (chainAt b h)
+chainFits rule most b h = leb (length (chainAt b h)) most && all (fitsRule rule b) (chainAt b h)
 
 -- the three chains: at most 8 stores, 23 walks, and all of the 31 records free
 unfoldable pub ruled : ℕ → List ℕ → Bool

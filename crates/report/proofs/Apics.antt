@@ -166,8 +166,8 @@ vector-long b p v x e = length-set b (p + v / 32) (withBit (getD b (p + v / 32) 
 
 module _ (a : Apic) (b : List ℕ) (S : SameApic a (apicOf b)) (long : length b ≡ 256) where
   -- jisr and rfe
-  pub jisr-same : SameApic (δapic a ΣApic.jisr) (apicOf (local.jisr b))
-  unfolding δapic local.jisr
+  pub jisr-same : SameApic (δapic a ΣApic.jisr) (apicOf (local.onJisr b))
+  unfolding δapic local.onJisr
   jisr-same =
       subst (λ (f : Found). SameApic (atVector f (λ j. withBitAt isr (withBitAt irr a j 0) j 1) a) (apicOf (marked (marked b local.irr (lowest b local.irr) 0) local.isr (lowest b local.irr) 1)))
       (sym (min-lowest a b S irr refl (omega arith))) (go (lowest b local.irr) (least-vector (λ (k : ℕ). vectors.bitAt b local.irr k)))
@@ -178,8 +178,8 @@ module _ (a : Apic) (b : List ℕ) (S : SameApic a (apicOf b)) (long : length b 
           let l = ltb-true v 256 h in
           put-bit (withBitAt irr a v 0) (withVector b local.irr v 0) (put-bit a b S long irr v 0 refl (omega arith) l (omega arith)) (vector-long b local.irr v 0 long) isr v 1 refl (omega arith) l (omega arith)
 
-  pub rfe-same : SameApic (δapic a ΣApic.rfe) (apicOf (local.rfe b))
-  unfolding δapic local.rfe
+  pub rfe-same : SameApic (δapic a ΣApic.rfe) (apicOf (local.onRfe b))
+  unfolding δapic local.onRfe
   rfe-same =
       subst (λ (f : Found). SameApic (atVector f (λ j. withBitAt isr a j 0) a) (apicOf (marked b local.isr (lowest b local.isr) 0)))
       (sym (min-lowest a b S isr refl (omega arith))) (go (lowest b local.isr) (least-vector (λ (k : ℕ). vectors.bitAt b local.isr k)))
@@ -203,8 +203,8 @@ module _ (a : Apic) (b : List ℕ) (S : SameApic a (apicOf b)) (long : length b 
       ))
 
   -- EOI is port 12
-  eoi-same : (v : ℕ) → SameApic (atVector (min (bitAt isr a)) (ended (written a 12 v)) (written a 12 v)) (apicOf (local.ended b v))
-  unfolding local.ended
+  eoi-same : (v : ℕ) → SameApic (atVector (min (bitAt isr a)) (ended (written a 12 v)) (written a 12 v)) (apicOf (local.eoiWritten b v))
+  unfolding local.eoiWritten
   eoi-same v =
       subst (λ (f : Found). SameApic (atVector f (ended (written a 12 v)) (written a 12 v)) (apicOf (marked (marked (set b local.eoi v) local.isr (lowest b local.isr) 0) at.eoipending (lowest b local.isr) 1)))
       (sym (min-lowest a b S isr refl (omega arith))) (go (lowest b local.isr) (least-vector (λ (k : ℕ). vectors.bitAt b local.isr k)))
@@ -218,14 +218,14 @@ module _ (a : Apic) (b : List ℕ) (S : SameApic a (apicOf b)) (long : length b 
           put-eoi (withBitAt isr (written a 12 v) j 0) (withVector c local.isr j 0)
           (put-bit (written a 12 v) c (port-same 12 v (omega arith) refl) longer isr j 0 refl (omega arith) l (omega arith)) (vector-long c local.isr j 0 longer) j 1 l (omega arith)
 
-  pub written-same : (p v : ℕ) → p < 128 → p % 4 ≡ 0 → SameApic (δapic a (ΣApic.write p v)) (apicOf (local.written b p v))
-  unfolding δapic local.written
+  pub written-same : (p v : ℕ) → p < 128 → p % 4 ≡ 0 → SameApic (δapic a (ΣApic.write p v)) (apicOf (local.portWritten b p v))
+  unfolding δapic local.portWritten
   written-same p v h q = go (eqb p 12) refl
     where
       go : (t : Bool) → eqb p 12 ≡ t →
-          SameApic (if t then atVector (min (bitAt isr a)) (ended (written a p v)) (written a p v) else written a p v) (apicOf (if t then local.ended b v else set b (local.portAt p) v))
+          SameApic (if t then atVector (min (bitAt isr a)) (ended (written a p v)) (written a p v) else written a p v) (apicOf (if t then local.eoiWritten b v else set b (local.portAt p) v))
       go true e =
-          subst (λ (n : ℕ). SameApic (atVector (min (bitAt isr a)) (ended (written a n v)) (written a n v)) (apicOf (local.ended b v))) (sym (eqb-true p 12 e)) (eoi-same v)
+          subst (λ (n : ℕ). SameApic (atVector (min (bitAt isr a)) (ended (written a n v)) (written a n v)) (apicOf (local.eoiWritten b v))) (sym (eqb-true p 12 e)) (eoi-same v)
       go false e = port-same p v h q
 
   -- messages

@@ -28,13 +28,13 @@ use Rattle.apic.specs.declared.active.Ipi.{Ipi}
 use Rattle.apic.specs.declared.active.Sending.the-variants as sent
 use Rattle.apic.specs.Vectors.{withBit, isVector}
 use Rattle.apic.specs.LocalApic.{idOf, received}
-use Rattle.apic.specs.Active.{ipiOf, sending, idle, aimed, reached, pendingEoi, eoiSent}
+use Rattle.apic.specs.Active.{ipiOf, sending, idle, aimed, receivedBy, pendingEoi, eoiSent}
 use Rattle.apic.proofs.Bits.{bit-lt}
 use Rattle.word.proofs.Words.{Words}
 use Rattle.apic.proofs.Kept.{Kept, Passive, kept-all, kept-then, kept-idle, kept-received, kept-reached, kept-vector}
 use Rattle.apic.proofs.Least.{lowest-vector}
 use Rattle.ioapic.specs.Blocks.{onBlock}
-use Rattle.ioapic.specs.IoApic.{entry, vect, acknowledged, onEntries, ended}
+use Rattle.ioapic.specs.IoApic.{entry, vect, acknowledged, onEntries, eoiReceived}
 use Rattle.ioapic.specs.Bus.{sendIpi, sendEoi}
 use Rattle.ioapic.proofs.Blocks.{block-words, onBlock-header}
 use Rattle.ioapic.proofs.Steps.{ipi-header, ipi-block, eoi-entry, eoi-block}
@@ -94,7 +94,7 @@ module _ (t m : List ℕ) (e : sound t (length m) ≡ true) (k : ℕ) (h : k < c
     eoi-kept c = kept-vector c at.eoipending v 0 (omega arith) (omega arith) hv (omega arith)
 
     eoi-low : (x : ℕ) → x < 6 → getD u x 0 ≡ getD t x 0
-    unfolding sendEoi ended
+    unfolding sendEoi eoiReceived
     eoi-low x l =
         let f : List ℕ → List ℕ = λ c. eoiSent c v in
         entries-before (acknowledged v) 24 (onBlock f k t) x l
@@ -310,8 +310,8 @@ module _ (t m : List ℕ) (e : sound t (length m) ≡ true) (ws : Words t) (k : 
         let z = field-dest b₂ wb in
         (λ i. eqb (x i) 0b01 || eqb (x i) 0b10 || (eqb (x i) 0b00 && eqb (y i) (z i))) ∙ sym (aimed-own (lo / 2 ^ 18 % 4) (eqb (idOf (idle b₂)) (hi / 2 ^ 24)) (omega arith))
 
-    own : SameProcessor (withApic (processorOf b₂) (if selfBy I then δapic sender (messageBy I) else sender)) (processorOf (reached mm true (idle b₂)))
-    unfolding reached
+    own : SameProcessor (withApic (processorOf b₂) (if selfBy I then δapic sender (messageBy I) else sender)) (processorOf (receivedBy mm true (idle b₂)))
+    unfolding receivedBy
     own =
         let K = kept-idle b₂ in
         let l = core-long t (length m) e k h in
@@ -322,8 +322,8 @@ module _ (t m : List ℕ) (e : sound t (length m) ≡ true) (ws : Words t) (k : 
         (if-received b₂ (idle b₂) sender d (lo % 2 ^ 8) K (idle-same (apicOf b₂) b₂ (apic-refl (apicOf b₂)) l) (K .long ∙ l) (K .initrr-flag (omega (arith, W .initrr))) (K .sipirr-flag (omega (arith, W .sipirr))) hv s))
 
     -- another
-    other : (j : ℕ) → j < coresOf t → SameProcessor (withApic (processorOf (block t j)) (if otherBy I j then δapic (apicOf (block t j)) (messageBy I) else apicOf (block t j))) (processorOf (reached mm false (block t j)))
-    unfolding reached
+    other : (j : ℕ) → j < coresOf t → SameProcessor (withApic (processorOf (block t j)) (if otherBy I j then δapic (apicOf (block t j)) (messageBy I) else apicOf (block t j))) (processorOf (receivedBy mm false (block t j)))
+    unfolding receivedBy
     other j g =
         let W = words-facts (block t j) (words-of (length m) (block t j) (core-sound t (length m) e j g)) in
         let s : Bool = aimed (targetBy (lo / 2 ^ 18 % 4)) false (eqb (idOf (block t j)) (hi / 2 ^ 24)) in
@@ -339,13 +339,13 @@ module _ (t m : List ℕ) (e : sound t (length m) ≡ true) (ws : Words t) (k : 
     informs j g =
         subst (λ (c : List ℕ). SameProcessor (withApic (processorOf (block t j)) (informedBy I j)) (processorOf c)) (sym (ipi-block (coresOf t) t all₂ k h mm hv j g)) (go (eqb j k) refl)
       where
-        go : (s : Bool) → eqb j k ≡ s → SameProcessor (withApic (processorOf (block t j)) (informedBy I j)) (processorOf (reached mm s (if s then idle (block t j) else block t j)))
+        go : (s : Bool) → eqb j k ≡ s → SameProcessor (withApic (processorOf (block t j)) (informedBy I j)) (processorOf (receivedBy mm s (if s then idle (block t j) else block t j)))
         go true q =
-            subst (λ (i : ℕ). SameProcessor (withApic (processorOf (block t i)) (informedBy I i)) (processorOf (reached mm true (idle (block t i))))) (sym (eqb-true j k q))
-            (subst (λ (y : Bool). SameProcessor (withApic (processorOf b₂) (if y then (if selfBy I then δapic sender (messageBy I) else sender) else if otherBy I k then δapic (apicOf b₂) (messageBy I) else apicOf b₂)) (processorOf (reached mm true (idle b₂))))
+            subst (λ (i : ℕ). SameProcessor (withApic (processorOf (block t i)) (informedBy I i)) (processorOf (receivedBy mm true (idle (block t i))))) (sym (eqb-true j k q))
+            (subst (λ (y : Bool). SameProcessor (withApic (processorOf b₂) (if y then (if selfBy I then δapic sender (messageBy I) else sender) else if otherBy I k then δapic (apicOf b₂) (messageBy I) else apicOf b₂)) (processorOf (receivedBy mm true (idle b₂))))
             (sym (eq-eqb k k refl)) own)
         go false q =
-            subst (λ (y : Bool). SameProcessor (withApic (processorOf (block t j)) (if y then (if selfBy I then δapic sender (messageBy I) else sender) else if otherBy I j then δapic (apicOf (block t j)) (messageBy I) else apicOf (block t j))) (processorOf (reached mm false (block t j))))
+            subst (λ (y : Bool). SameProcessor (withApic (processorOf (block t j)) (if y then (if selfBy I then δapic sender (messageBy I) else sender) else if otherBy I j then δapic (apicOf (block t j)) (messageBy I) else apicOf (block t j))) (processorOf (receivedBy mm false (block t j))))
             (sym (ne-eqb k j (λ r. eqb-false j k q (sym r)))) (other j g)
 
     ipi-runs : (j : ℕ) → j < coresOf t → runningOf (block u₂ j) ≡ runningOf (block t j)

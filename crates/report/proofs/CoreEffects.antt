@@ -15,7 +15,7 @@ use Rattle.decode.specs.Table.{decoded}
 use Rattle.decode.specs.Mnemonics.{load, cas, eret}
 use Rattle.isa.specs.declared.registers.Registers.{Registers}
 use Rattle.isa.specs.Core.{sprAt, d, effect, deltaInstr}
-use Rattle.isa.specs.Interrupts.{mca, eventsAs, jisr, il, lowest, continues, edata, eaAt, sprJisr, deltaJisr, deltaRfe, deltaCore}
+use Rattle.isa.specs.Interrupts.{mca, eventsAs, jisr, il, lowestBit, continues, edataOf, eaAt, sprJisr, deltaJisr, deltaRfe, deltaCore}
 use Rattle.records.specs.declared.Walk.{Walk}
 use Rattle.records.specs.Records.{among, walks, stores}
 use Rattle.tables.specs.Views.{coresOf, registersOf}
@@ -32,7 +32,7 @@ use Rattle.cores.specs.declared.Write.the-variants.{Memory, LocalPort, IoPort}
 use Rattle.cores.specs.declared.Plan.{Plan}
 use Rattle.cores.specs.Plans.{interrupted, changed}
 use Rattle.cores.specs.Core.{View, isEvent, vectorOf, suppressed, stopped, causes}
-use Rattle.cores.specs.Commit.{tablesAfter, memoryAfter, writtenTo, blockAfter}
+use Rattle.cores.specs.Commit.{tablesByPlan, memoryByPlan, writtenTo, blockAfter}
 use Rattle.cores.proofs.Accesses.{allB, bools}
 use Rattle.cores.proofs.Sounds.{registersAfter, storesAfter, tlbAfter}
 use Rattle.cores.proofs.Decisions.{MayBeDone}
@@ -54,12 +54,12 @@ abbrev pub masked : Bool → Bool → Bool → ℕ
 masked t mal pff = flag t * 2 ^ 1 + flag false * 2 ^ 2 + flag mal * 2 ^ 3 + flag pff * 2 ^ 4 + flag false * 2 ^ 5 + flag false * 2 ^ 6 + flag false * 2 ^ 7
 
 pub mal-stops : (t : Bool) → (suppressed (masked t true false) ≡ true) × (eqb (il (masked t true false)) 5 ≡ false)
-unfolding lowest
+unfolding lowestBit
 mal-stops true = (refl, refl)
 mal-stops false = (refl, refl)
 
 pub pff-stops : (t : Bool) → (suppressed (masked t false true) ≡ true) × (eqb (il (masked t false true)) 5 ≡ false)
-unfolding lowest
+unfolding lowestBit
 pff-stops true = (refl, refl)
 pff-stops false = (refl, refl)
 
@@ -80,7 +80,7 @@ abbrev P₁ : Bool → Bool
 P₁ a = allB (P₂ a)
 
 always : T (allB P₁)
-unfolding lowest
+unfolding lowestBit
 always = tt
 
 fault-stops : (a b c d e : Bool) → P a b c d e ≡ true
@@ -103,7 +103,7 @@ is-interrupt ca e = go (jisr ca) (continues (il ca)) e
 -- what an interrupt that stops an instruction does not see: what was read, and at other levels than 5 the word
 module _ (c : Registers) (w R ca k : ℕ) (e : continues (il ca) ≡ false) where
   at-address : ℕ → Registers
-  at-address x = record { gpr = c .gpr; spr = sprJisr c ca (c .pc) (edata c (il ca) x k); pc = 0; hi = c .hi; lo = c .lo }
+  at-address x = record { gpr = c .gpr; spr = sprJisr c ca (c .pc) (edataOf c (il ca) x k); pc = 0; hi = c .hi; lo = c .lo }
 
   at-level : Bool → ℕ → Registers
   at-level t x = record { gpr = c .gpr; spr = sprJisr c ca (c .pc) (if t then x else if eqb (il ca) 1 then k else sprAt c at.edata); pc = 0; hi = c .hi; lo = c .lo }
@@ -111,7 +111,7 @@ module _ (c : Registers) (w R ca k : ℕ) (e : continues (il ca) ≡ false) wher
   stops-as : deltaJisr c w R ca k ≡ at-address (eaAt c w)
   unfolding deltaJisr at-address
   stops-as =
-      ap (λ (t : Bool). record { gpr = if t then deltaInstr c w R .gpr else c .gpr; spr = sprJisr c ca (if t then deltaInstr c w R .pc else c .pc) (edata c (il ca) (eaAt c w) k); pc = 0; hi = c .hi; lo = c .lo }) e
+      ap (λ (t : Bool). record { gpr = if t then deltaInstr c w R .gpr else c .gpr; spr = sprJisr c ca (if t then deltaInstr c w R .pc else c .pc) (edataOf c (il ca) (eaAt c w) k); pc = 0; hi = c .hi; lo = c .lo }) e
 
 pub stops-at : (c : Registers) (w R ca k : ℕ) → continues (il ca) ≡ false → deltaJisr c w R ca k ≡ deltaJisr c w 0 ca k
 unfolding at-address
@@ -163,7 +163,7 @@ module _ (t m : List ℕ) (i : ℕ) (h : i < coresOf t) (wI wR : Walk) where
     pub sb : report.sb′ (c M) i wI wR ≡ storesAfter (p .buffer) (stores b)
     pub tlb : (w : Walk) → report.tlb′ (c M) i wI wR w ≡ among w (tlbAfter (p .walks) (walks b))
     pub apic : report.apic′ (c M) i wI wR ≡ apicCore (p .core) (apicOf b)
-    pub memory : (y : ℕ) → y < 2 ^ 32 → report.m′ (c M) i wI wR y ≡ memoryOf (memoryAfter p m) M y
+    pub memory : (y : ℕ) → y < 2 ^ 32 → report.m′ (c M) i wI wR y ≡ memoryOf (memoryByPlan p m) M y
 
   module _ (e : sound t (length m) ≡ true) (p : Plan) (D : MayBeDone (length m) b p) (q : quiet (p .write) ≡ true) where
     processor : (M : ℕ → ℕ) (r : report.Answer) → Lands M p r →
@@ -177,7 +177,7 @@ module _ (t m : List ℕ) (i : ℕ) (h : i < coresOf t) (wI wR : Walk) where
           apic = subst (λ (a : Apic). SameApic a (processorOf (blockAfter p b) .apic)) (quiet-apic (p .write) (apicCore (p .core) (apicOf b)) q ∙ sym (L .apic)) (S .apic);
         }
 
-    pub lead : (M : ℕ → ℕ) (r : report.Answer) → guarded t m i h wI wR M ≡ true → Lands M p r → Next (δx t m (Core i wI wR) M) r (view (tablesAfter i p t) (memoryAfter p m) M)
+    pub lead : (M : ℕ → ℕ) (r : report.Answer) → guarded t m i h wI wR M ≡ true → Lands M p r → Next (δx t m (Core i wI wR) M) r (view (tablesByPlan i p t) (memoryByPlan p m) M)
     unfolding view
     lead M r g L =
         record {

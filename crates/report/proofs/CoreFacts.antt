@@ -17,8 +17,8 @@ use Rattle.isa.specs.Core.{ea}
 use Rattle.isa.specs.Interrupts.{user, eventsAs, eventsWithout, causesOf, jisr, il, continues}
 use Rattle.records.specs.declared.Walk.{Walk}
 use Rattle.tlb.specs.declared.Request.{Request}
-use Rattle.tlb.specs.declared.Verdict.{Verdict}
-use Rattle.tlb.specs.declared.Verdict.the-variants.{Faults, Passes, Undecided}
+use Rattle.tlb.specs.declared.Faulting.{Faulting}
+use Rattle.tlb.specs.declared.Faulting.the-variants.{Faults, Passes, Undecided}
 use Rattle.tlb.specs.Walks as tlb
 use Rattle.tables.specs.Views.{coresOf, ioregselOf, iowinOf}
 use Rattle.apic.specs.declared.vectors.Found.{Found}
@@ -39,7 +39,7 @@ use Rattle.report.proofs.Memory.{nothing, consulted, Judges, judges}
 -- ---- a verdict, where a walk is consulted if u
 
 module _ (m : List ℕ) (whole : length m % 4 ≡ 0) (u : Bool) (trq : Request) (w : Walk) where
-  pub data Decides : Verdict → Type 0 where
+  pub data Decides : Faulting → Type 0 where
     passes : ((M : ℕ → ℕ) → (u && fault (memoryOf m M) trq w) ≡ false) → ((u && consulted trq w) ≡ true → tlb.ptea w + 4 ≤ length m) → Decides Passes
     faults : u ≡ true → ((M : ℕ → ℕ) → (u && fault (memoryOf m M) trq w) ≡ true) → tlb.ptea w + 4 ≤ length m → Decides Faults
     undecided : u ≡ true → (u && fault (memoryOf m nothing) trq w) ≡ true → consulted trq w ≡ true → length m ≤ tlb.ptea w → Decides Undecided
@@ -48,7 +48,7 @@ pub decides : (m : List ℕ) (whole : length m % 4 ≡ 0) (u : Bool) (trq : Requ
 decides m whole false trq w = Decides.passes (λ M. refl) (λ e. absurd (true-false (sym e)))
 decides m whole true trq w = go (tlb.fault m trq w) (judges m whole trq w)
   where
-    go : (f : Verdict) → Judges m whole trq w f → Decides m whole true trq w f
+    go : (f : Faulting) → Judges m whole trq w f → Decides m whole true trq w f
     go Passes (Judges.passes p q) = Decides.passes p q
     go Faults (Judges.faults p q r) = Decides.faults refl p r
     go Undecided (Judges.undecided p q r) = Decides.undecided refl p q r

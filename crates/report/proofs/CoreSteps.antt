@@ -18,8 +18,8 @@ use Rattle.isa.specs.Interrupts.{user}
 use Rattle.records.specs.declared.Walk.{Walk}
 use Rattle.records.specs.Records.{among}
 use Rattle.tlb.specs.declared.Request.{Request}
-use Rattle.tlb.specs.declared.Verdict.{Verdict}
-use Rattle.tlb.specs.declared.Verdict.the-variants.{Faults, Passes, Undecided}
+use Rattle.tlb.specs.declared.Faulting.{Faulting}
+use Rattle.tlb.specs.declared.Faulting.the-variants.{Faults, Passes, Undecided}
 use Rattle.tlb.specs.Walks.{walkBa, complete, hit}
 use Rattle.store_buffer.specs.declared.Read.{Read}
 use Rattle.store_buffer.specs.declared.Read.the-variants.{There, Nowhere}
@@ -31,7 +31,7 @@ use Rattle.cores.specs.declared.WalkChange.{WalkChange}
 use Rattle.cores.specs.declared.Plan.{Plan}
 use Rattle.cores.specs.Guards.{settle}
 use Rattle.cores.specs.Plans.{refused}
-use Rattle.cores.specs.Core.{View, faultOf, physical, causes, suppressed, stopped, plain, performed, withoutAccess, isAccess, findsBuffer, avoidsPorts, hasHazard, dataRequestOf, fetchRequestOf, onAddress, onData, onAccess, onInstruction, onFetchAddress, onFetch, fetch, coreStep}
+use Rattle.cores.specs.Core.{View, faultOf, physical, causes, suppressed, stopped, plain, performed, withoutAccess, isAccess, findsBuffer, avoidsPorts, hasHazard, dataRequestOf, fetchRequestOf, onAddress, onData, onAccess, onInstruction, onFetchAddress, onFetch, fetch, corePlan}
 use Rattle.cores.proofs.Decisions.{MayBeDone}
 use Rattle.cores.proofs.Executions.{core-plan}
 use Rattle.cores.proofs.Held.{same-offset}
@@ -117,7 +117,7 @@ module _ (t m : List ℕ) (e : sound t (length m) ≡ true) (low : Words t) (i :
           by-port false p = by-hazard p (hasHazard (v .sb) x a) refl
 
     module _ (acc : isAccess x ≡ true) (f : findsBuffer (v .sb) x ≡ true) where
-      by-data : heldR ≡ true → (r : Verdict) → Decides m whole u (dataRequestOf (v .core) x w) wR r → Good (settle refused (onData v m wR x w r))
+      by-data : heldR ≡ true → (r : Faulting) → Decides m whole u (dataRequestOf (v .core) x w) wR r → Good (settle refused (onData v m wR x w r))
       by-data g Faults (Decides.faults y n l) = to (judging.data-faults v m wR x w) (instructions.access-faults t m e low i h wI wR w F acc f g n l)
       by-data g Undecided (Decides.undecided y n q l) = to (judging.data-undecided v m wR x w) (λ D. instructions.access-misses t m e low i h wI wR w F acc f g y n q l)
       by-data g Passes (Decides.passes clear has) = go (not u || complete wR) refl
@@ -183,7 +183,7 @@ module _ (t m : List ℕ) (e : sound t (length m) ≡ true) (low : Words t) (i :
       by-word (There w) r = to (judging.fetch-word v m wR pmaI p w r) (instruction w (word-found w r) (findsBuffer (v .sb) (decoded w)) (isAccess (decoded w)) refl refl)
       by-word Nowhere r = to (judging.fetch-nowhere v m wR pmaI p r) (λ D. word-misses r)
 
-    by-fetch : (r : Verdict) → Decides m whole u rq wI r → Good (settle refused (onFetch v m wI wR r))
+    by-fetch : (r : Faulting) → Decides m whole u rq wI r → Good (settle refused (onFetch v m wI wR r))
     by-fetch Faults (Decides.faults y n l) = to (judging.fetch-faults v m wI wR) (fetch-faults t m i h wI wR e run ali g y n l)
     by-fetch Undecided (Decides.undecided y n q l) = to (judging.fetch-undecided v m wI wR) (λ D. fetch-misses t m i h wI wR e run ali g y n q l)
     by-fetch Passes (Decides.passes clear has) = by-end (not u || complete wI) refl
@@ -202,7 +202,7 @@ module _ (t m : List ℕ) (e : sound t (length m) ≡ true) (low : Words t) (i :
   fetching run ali true g = to (judging.fetch-fit v m wI wR heldI (faultOf v m rq wI) refl g refl) (by-fetch run ali g (faultOf v m rq wI) (decides m whole u rq wI))
   fetching run ali false g = to (judging.fetch-unfit v m wI wR heldI refl g) (refused-as (refuse t m i h wI wR (λ M. stops-unfit t m i h wI wR M ali g)))
 
-  steps : (r o : Bool) → v .running ≡ r → al ≡ o → Good (coreStep v m wI wR)
+  steps : (r o : Bool) → v .running ≡ r → al ≡ o → Good (corePlan v m wI wR)
   steps false o run q = to (judging.step-waits v m wI wR run) (refused-as (refuse t m i h wI wR (λ M. stops-waiting t m i h wI wR M run)))
   steps true false run q = to (judging.step-misaligned v m wI wR run q) (misaligned t m i h wI wR e run q)
   steps true true run q = to (judging.step-fetch v m wI wR run q) (fetching run q heldI refl)

@@ -21,8 +21,8 @@ use Rattle.tables.specs.Views.{coresOf, linesOf, runningOf, registersOf}
 use Rattle.tables.specs.Sound.{sound}
 use Rattle.tables.proofs.Lift.{core-long, core-sound}
 use Rattle.tables.proofs.Steps.{block-stores}
-use Rattle.store_buffer.specs.declared.Target.the-variants as to
-use Rattle.store_buffer.specs.Leaving.{oldest, wordOnly, target}
+use Rattle.store_buffer.specs.declared.Place.the-variants as to
+use Rattle.store_buffer.specs.Leaving.{oldest, wordOnly, placeOf}
 use Rattle.store_buffer.specs.System.{apicadr, ioapicadr}
 use Rattle.ioapic.specs.IoApic.{writes}
 use Rattle.steps.specs.declared.Step.{Step}
@@ -190,8 +190,8 @@ module _ (t m : List ℕ) (e : sound t (length m) ≡ true) (k : ℕ) (h : k < c
       })
   to-memory p r false f D = absurd (omega (arith, leb-false (a + s .width) n f, in-memory n s (quarters t n e) S p r))
 
-  leaves : MayBeDone n b (leavesTo s (target n s)) → Case t m x (Planned k (leavesTo s (target n s)))
-  unfolding target
+  leaves : MayBeDone n b (leavesTo s (placeOf n s)) → Case t m x (Planned k (leavesTo s (placeOf n s)))
+  unfolding placeOf
   leaves = go (localPort a) (ioPort a) refl refl
     where
       by : Bool → Bool → Plan

@@ -42,7 +42,7 @@ use Rattle.cores.specs.declared.WalkChange.the-variants.{Add, Drop}
 use Rattle.cores.specs.declared.Write.{Write}
 use Rattle.cores.specs.declared.Write.the-variants.{Memory, LocalPort, IoPort}
 use Rattle.cores.specs.declared.Plan.{Plan}
-use Rattle.cores.specs.Commit.{coreAfter, bufferAfter, walksAfter, portAfter, blockAfter, headerAfter, tablesAfter, memoryAfter, bufferReady, walksReady, portReady, ready}
+use Rattle.cores.specs.Commit.{coreAfter, bufferAfter, walksAfter, portAfter, blockAfter, headerAfter, tablesByPlan, memoryByPlan, bufferReady, walksReady, portReady, ready}
 use Rattle.cores.proofs.Changes.{Full, effect-full, jisr-full, rfe-full, buffer-asks, walks-ask}
 use Rattle.cores.proofs.Adding.{or-other}
 use Rattle.cores.proofs.Sounds.{Shows, plan-shows, storeBrought, walkBrought, registersAfter, storesAfter, tlbAfter, planSound}
@@ -181,8 +181,8 @@ module _ (io : IoApic) (t : List ℕ) (v : ℕ) (S : SameIo io (ioapicOf t)) (lo
                 ∙ sym (redirect-at (set t 5 v) k h);
           }
 
-  pub io-written : (a : ℕ) → ioapic.writes a v ≡ true → SameIo (δioapic io (ΣIoApic.write a v)) (ioapicOf (ioapic.written t a v))
-  unfolding δioapic ioapic.written
+  pub io-written : (a : ℕ) → ioapic.writes a v ≡ true → SameIo (δioapic io (ΣIoApic.write a v)) (ioapicOf (ioapic.ioWritten t a v))
+  unfolding δioapic ioapic.ioWritten
   io-written a w = go (eqb a 0) refl
     where
       go : (b : Bool) → eqb a 0 ≡ b →
@@ -308,7 +308,7 @@ module _ (n : ℕ) (p : Plan) (b : List ℕ) (long : length b ≡ 256) (e : soun
 -- the configuration after a plan of core k: another processor, memory and I/O APIC
 module _ (t m : List ℕ) (k : ℕ) (p : Plan) (e : sound t (length m) ≡ true) (h : k < coresOf t) (D : MayBeDone (length m) (block t k) p) where
   abbrev u : List ℕ
-  u = tablesAfter k p t
+  u = tablesByPlan k p t
 
   abbrev b : List ℕ
   b = block t k
@@ -323,12 +323,12 @@ module _ (t m : List ℕ) (k : ℕ) (p : Plan) (e : sound t (length m) ≡ true)
   shows = plan-shows (length m) p b (core-long t (length m) e k h) (core-sound t (length m) e k h) (D .is-ready) (D .is-sound)
 
   pub io-still : isIo (p .write) ≡ false → SameIo (ioapicOf t) (ioapicOf u)
-  unfolding tablesAfter
+  unfolding tablesByPlan
   io-still q =
       io-kept t u (λ x l g. ap (λ (s : List ℕ). getD s x 0) (header-still (p .write) (withBlock t k (blockAfter p b)) q) ∙ with-header t k (blockAfter p b) fits long x (omega arith))
 
   pub io-moved : (a v : ℕ) → p .write ≡ IoPort a v → ioapic.writes a v ≡ true → SameIo (δioapic (ioapicOf t) (ΣIoApic.write a v)) (ioapicOf u)
-  unfolding tablesAfter headerAfter
+  unfolding tablesByPlan headerAfter
   io-moved a v q w =
       let s : List ℕ = withBlock t k (blockAfter p b) in
       subst (λ (x : Write). SameIo (δioapic (ioapicOf t) (ΣIoApic.write a v)) (ioapicOf (headerAfter x s))) (sym q)
@@ -338,8 +338,8 @@ module _ (t m : List ℕ) (k : ℕ) (p : Plan) (e : sound t (length m) ≡ true)
     abbrev pub moved : Configuration
     moved = record { np = coresOf t; p = upd (λ j. processorOf (block t j)) k P; running = λ j. eqb (runningOf (block t j)) 1; m = f; irq = isSet (linesOf t); ioapic = io }
 
-    pub plan-same : SameProcessor P (processorOf (blockAfter p b)) → ((x : ℕ) → x < 2 ^ 32 → f x ≡ memoryOf (memoryAfter p m) M x) → SameIo io (ioapicOf u) →
-        Same moved (view u (memoryAfter p m) M)
+    pub plan-same : SameProcessor P (processorOf (blockAfter p b)) → ((x : ℕ) → x < 2 ^ 32 → f x ≡ memoryOf (memoryByPlan p m) M x) → SameIo io (ioapicOf u) →
+        Same moved (view u (memoryByPlan p m) M)
     unfolding view
     plan-same S F I =
         record {
@@ -365,7 +365,7 @@ module _ (t m : List ℕ) (k : ℕ) (p : Plan) (e : sound t (length m) ≡ true)
 
   -- a plan that leaves the processor
   pub plan-memory-same : (M : ℕ → ℕ) (f : ℕ → ℕ) → SameProcessor (processorOf b) (processorOf (blockAfter p b)) → isIo (p .write) ≡ false →
-      ((x : ℕ) → x < 2 ^ 32 → f x ≡ memoryOf (memoryAfter p m) M x) → Same (withM (view t m M) f) (view u (memoryAfter p m) M)
+      ((x : ℕ) → x < 2 ^ 32 → f x ≡ memoryOf (memoryByPlan p m) M x) → Same (withM (view t m M) f) (view u (memoryByPlan p m) M)
   unfolding view
   plan-memory-same M f S q F =
       let T = plan-same M (processorOf b) f (ioapicOf t) S F (io-still q) in

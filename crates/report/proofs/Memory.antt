@@ -23,8 +23,8 @@ use Rattle.records.specs.Contents.{localPort, ioPort, there, allThere}
 use Rattle.records.proofs.Counts.{and-left, and-right, and-both}
 use Rattle.tlb.specs.declared.Request.{Request}
 use Rattle.tlb.specs.declared.Entry.the-variants.{Word, Missing}
-use Rattle.tlb.specs.declared.Verdict.{Verdict}
-use Rattle.tlb.specs.declared.Verdict.the-variants.{Faults, Passes, Undecided}
+use Rattle.tlb.specs.declared.Faulting.{Faulting}
+use Rattle.tlb.specs.declared.Faulting.the-variants.{Faults, Passes, Undecided}
 use Rattle.tlb.specs.Walks.{complete, hit, ptea, entryAt, entryFault, faultBy, wextFault}
 use Rattle.tlb.proofs.Fields.{ptea-aligned, ptea-low}
 use Rattle.store_buffer.specs.declared.Read.{Read}
@@ -193,7 +193,7 @@ module _ (f : ℕ → ℕ) (trq : Request) (w : Walk) where
 
 module _ (m : List ℕ) (whole : length m % 4 ≡ 0) (trq : Request) (w : Walk) where
   -- what the verdict says of the report's fault, and which bytes it needs
-  pub data Judges : Verdict → Type 0 where
+  pub data Judges : Faulting → Type 0 where
     passes : ((M : ℕ → ℕ) → fault (memoryOf m M) trq w ≡ false) → (consulted trq w ≡ true → ptea w + 4 ≤ length m) → Judges Passes
     faults : ((M : ℕ → ℕ) → fault (memoryOf m M) trq w ≡ true) → consulted trq w ≡ true → ptea w + 4 ≤ length m → Judges Faults
     undecided : fault (memoryOf m nothing) trq w ≡ true → consulted trq w ≡ true → length m ≤ ptea w → Judges Undecided

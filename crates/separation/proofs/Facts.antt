@@ -25,7 +25,7 @@ use Rattle.cores.specs.declared.WalkChange.the-variants.{Add, Drop}
 use Rattle.cores.specs.declared.Write.{Write}
 use Rattle.cores.specs.declared.Write.the-variants.{Memory, LocalPort, IoPort}
 use Rattle.cores.specs.declared.Plan.{Plan}
-use Rattle.cores.specs.Commit.{writtenTo, blockAfter, memoryAfter}
+use Rattle.cores.specs.Commit.{writtenTo, blockAfter, memoryByPlan}
 use Rattle.cores.proofs.Sounds.{Shows, plan-shows, storesAfter, tlbAfter, registersAfter}
 use Rattle.reach.specs.Reach.{Pages, tablePages, reached}
 use Rattle.separation.specs.Separation.{isInterrupt}
@@ -113,7 +113,7 @@ matched S L t m u n s e f b c h i G o q A =
       answers = X .answers ∙ ap (λ (r : Plan). r .answer) p ∙ sym (Y .answers);
       blocks = X .own ∙ ap₂ (λ (r : Plan) (x : List ℕ). blockAfter r x) p q ∙ sym (Y .own);
       memories =
-          subst (λ (x : List ℕ). Agree (reached S) (step t m s .memory) x) (sym (Y .bytes ∙ ap (λ (r : Plan). memoryAfter r n) (sym p)))
-          (subst (λ (x : List ℕ). Agree (reached S) x (memoryAfter (planOf o (block t (word s 1)) (ioregselOf t) (iowinOf t) m) n)) (sym (X .bytes))
+          subst (λ (x : List ℕ). Agree (reached S) (step t m s .memory) x) (sym (Y .bytes ∙ ap (λ (r : Plan). memoryByPlan r n) (sym p)))
+          (subst (λ (x : List ℕ). Agree (reached S) x (memoryByPlan (planOf o (block t (word s 1)) (ioregselOf t) (iowinOf t) m) n)) (sym (X .bytes))
           (written-same (reached S) m n (planOf o (block t (word s 1)) (ioregselOf t) (iowinOf t) m .write) A));
     }

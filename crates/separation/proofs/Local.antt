@@ -24,8 +24,8 @@ use Rattle.records.specs.Contents.{localPort, ioPort, allThere}
 use Rattle.tables.specs.Views.{registersOf}
 use Rattle.tlb.specs.declared.Request.{Request}
 use Rattle.tlb.specs.declared.Entry.{Entry}
-use Rattle.tlb.specs.declared.Verdict.{Verdict}
-use Rattle.tlb.specs.declared.Verdict.the-variants.{Faults, Passes, Undecided}
+use Rattle.tlb.specs.declared.Faulting.{Faulting}
+use Rattle.tlb.specs.declared.Faulting.the-variants.{Faults, Passes, Undecided}
 use Rattle.tlb.specs.Walks.{walkLevel, walkR, walkBa, complete, hit, pte, ptea, fault, faultBy}
 use Rattle.tlb.specs.Steps.{userMode, runs, asidOf, extendable, tlbExtend, tlbAccessed, onExtend, onAccessed, extendOn, accessedOn}
 use Rattle.tlb.specs.declared.Decision.{Decision}
@@ -39,13 +39,13 @@ use Rattle.store_buffer.specs.declared.Loaded.the-variants as load-variants
 use Rattle.store_buffer.specs.declared.Loaded.the-variants.{Value, Hazard}
 use Rattle.steps.specs.declared.Step.{Step}
 use Rattle.store_buffer.specs.declared.Oldest.the-variants.{Empty, Leaves}
-use Rattle.store_buffer.specs.declared.Target.{Target}
+use Rattle.store_buffer.specs.declared.Place.{Place}
 use Rattle.store_buffer.specs.Buffer.{sbhit, sbv, maxsbhit, sbhazard}
-use Rattle.store_buffer.specs.Leaving.{oldest, target}
+use Rattle.store_buffer.specs.Leaving.{oldest, placeOf}
 use Rattle.store_buffer.specs.System.{Ports, isPort, sized, aligned, memoryByte, beneath, msOf, ms, join, reads, onRead, loaded}
 use Rattle.cores.specs.Guards.{Judged, yield, ask, test}
 use Rattle.cores.specs.Core as core
-use Rattle.cores.specs.Core.{View, viewOf, isEvent, causes, suppressed, stopped, causesWithout, walkGuard, faultOf, completeGuard, physical, onLoad, onStore, onCas, storedFrom, performed, unlessSuppressed, isAccess, avoidsPorts, hasHazard, onAddress, onData, onAccess, onInstruction, findsBuffer, dataRequestOf, fetchRequestOf, onWord, onFetchAddress, onFetch, fetch, judged, coreStep, isFree, withoutAccess}
+use Rattle.cores.specs.Core.{View, viewOf, isEvent, causes, suppressed, stopped, causesWithout, walkGuard, faultOf, completeGuard, physical, onLoad, onStore, onCas, storedFrom, performed, unlessSuppressed, isAccess, avoidsPorts, hasHazard, onAddress, onData, onAccess, onInstruction, findsBuffer, dataRequestOf, fetchRequestOf, onWord, onFetchAddress, onFetch, fetch, judged, corePlan, isFree, withoutAccess}
 use Rattle.cores.specs.declared.Plan.{Plan}
 use Rattle.cores.specs.declared.WalkChange.{WalkChange}
 use Rattle.cores.specs.Plans.{refused}
@@ -176,7 +176,7 @@ module _ (S : Pages) (L : Low S) (b : List ℕ) (G : Good S b) where
       Y = viewOf b s′ i′
 
       verdict-same : (t : Request) (w : Walk) → among w (walks b) ≡ true → faultOf X m t w ≡ faultOf Y n t w
-      verdict-same t w h = ap (λ (x : Verdict). if user (registersOf b) then x else Passes) (fault-same t w h)
+      verdict-same t w h = ap (λ (x : Faulting). if user (registersOf b) then x else Passes) (fault-same t w h)
 
       -- ports do not matter
       load-on : (c : Instruction) (w ca : ℕ) (r : Loaded) → onLoad X c w ca r ≡ onLoad Y c w ca r
@@ -205,7 +205,7 @@ module _ (S : Pages) (L : Low S) (b : List ℕ) (G : Good S b) where
           (if-same (suppressed (causes X c w false)) _ _ _ _ (λ _. refl)
           (λ e. performed-same c w (causes X c w false) a x h (aligned-fits a (d c) (access-aligned c (registersOf b) w a (isEvent (X .eev)) false x e q)))))
 
-      data-same : (wR : Walk) (c : Instruction) (w : ℕ) (f : Verdict) → isAccess c ≡ true → among wR (walks b) ≡ true → Same (onData X m wR c w f) (onData Y n wR c w f)
+      data-same : (wR : Walk) (c : Instruction) (w : ℕ) (f : Faulting) → isAccess c ≡ true → among wR (walks b) ≡ true → Same (onData X m wR c w f) (onData Y n wR c w f)
       unfolding onData
       data-same wR c w Passes x h =
           same-test (not (user (registersOf b)) || complete wR) _ _
@@ -222,7 +222,7 @@ module _ (S : Pages) (L : Low S) (b : List ℕ) (G : Good S b) where
       access-same wR c w x =
           same-test (not (user (registersOf b)) || (among wR (walks b) && hit (dataRequestOf (registersOf b) c w) wR)) _ _
           (λ e. let h = guard-held (user (registersOf b)) (among wR (walks b)) _ U e .0 in
-          subst (λ (f : Verdict). Same (onData X m wR c w (faultOf X m (dataRequestOf (registersOf b) c w) wR)) (onData Y n wR c w f))
+          subst (λ (f : Faulting). Same (onData X m wR c w (faultOf X m (dataRequestOf (registersOf b) c w) wR)) (onData Y n wR c w f))
           (verdict-same (dataRequestOf (registersOf b) c w) wR h)
           (data-same wR c w (faultOf X m (dataRequestOf (registersOf b) c w) wR) x h))
 
@@ -244,7 +244,7 @@ module _ (S : Pages) (L : Low S) (b : List ℕ) (G : Good S b) where
           (word-same S L m n A a 4 h (aligned-fits a 4 (word-aligned a q)))
           (word-on wR (reads 4 (memoryByte m) a)))
 
-      fetch-on : (wI wR : Walk) (f : Verdict) → among wI (walks b) ≡ true → registersOf b .pc % 4 ≡ 0 → Same (onFetch X m wI wR f) (onFetch Y n wI wR f)
+      fetch-on : (wI wR : Walk) (f : Faulting) → among wI (walks b) ≡ true → registersOf b .pc % 4 ≡ 0 → Same (onFetch X m wI wR f) (onFetch Y n wI wR f)
       unfolding onFetch
       fetch-on wI wR Passes h q =
           same-test (not (user (registersOf b)) || complete wI) _ _
@@ -261,12 +261,12 @@ module _ (S : Pages) (L : Low S) (b : List ℕ) (G : Good S b) where
       fetch-same wI wR q =
           same-test (not (user (registersOf b)) || (among wI (walks b) && hit (fetchRequestOf (registersOf b)) wI)) _ _
           (λ e. let h = guard-held (user (registersOf b)) (among wI (walks b)) _ U e .0 in
-          subst (λ (f : Verdict). Same (onFetch X m wI wR (faultOf X m (fetchRequestOf (registersOf b)) wI)) (onFetch Y n wI wR f))
+          subst (λ (f : Faulting). Same (onFetch X m wI wR (faultOf X m (fetchRequestOf (registersOf b)) wI)) (onFetch Y n wI wR f))
           (verdict-same (fetchRequestOf (registersOf b)) wI h)
           (fetch-on wI wR (faultOf X m (fetchRequestOf (registersOf b)) wI) h q))
 
-      core-same : (wI wR : Walk) → coreStep X m wI wR ≡ coreStep Y n wI wR
-      unfolding coreStep judged
+      core-same : (wI wR : Walk) → corePlan X m wI wR ≡ corePlan Y n wI wR
+      unfolding corePlan judged
       core-same wI wR =
           settle-same refused _ _
           (same-ask (test (X .running) ∷ []) _ _
@@ -289,7 +289,7 @@ module _ (S : Pages) (L : Low S) (b : List ℕ) (G : Good S b) where
           (λ g. ap (onAccessed w) (pte-same w (is-held (userMode b) (asidOf b) (walks b) w g) (is-incomplete (userMode b) (asidOf b) (walks b) w g))) (λ _. refl)
 
       drain-same : (l : List Store) → Each (StoreOk S) l → bufferStep l (length m) ≡ bufferStep l (length n)
-      unfolding onOldest target
+      unfolding onOldest placeOf
       drain-same [] h = refl
       drain-same (x ∷ l) h =
           let p : leb (x .address + x .width) (length m) ≡ leb (x .address + x .width) (length n)

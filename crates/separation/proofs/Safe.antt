@@ -32,8 +32,8 @@ use Rattle.tlb.specs.declared.Entry.{Entry}
 use Rattle.tlb.specs.declared.Entry.the-variants.{Word, Missing}
 use Rattle.tlb.specs.declared.Decision.{Decision}
 use Rattle.tlb.specs.declared.Decision.the-variants as decision
-use Rattle.tlb.specs.declared.Verdict.{Verdict}
-use Rattle.tlb.specs.declared.Verdict.the-variants.{Faults, Passes, Undecided}
+use Rattle.tlb.specs.declared.Faulting.{Faulting}
+use Rattle.tlb.specs.declared.Faulting.the-variants.{Faults, Passes, Undecided}
 use Rattle.tlb.specs.Walks.{baseAddress, pageKey, walkVa, walkAsid, walkLevel, walkR, walkBa, walkOf, index, pteaAt, entryAt, pteA, pteP, pteR, pteBa, wextFault, complete, hit, suffices, storeR, loadR, pte, ptea, winit, wext, set-d}
 use Rattle.tlb.specs.Steps.{userMode, runs, asidOf, originOf, extendable, onExtend, tlbExtend, onAccessed, tlbAccessed, tlbCreate, createOn, extendOn, accessedOn}
 use Rattle.tlb.proofs.Fields.{Fields, winit-fields, wext-fields, wext-present, first-lt, incomplete-level, index-lt, ptea-aligned}
@@ -42,16 +42,16 @@ use Rattle.store_buffer.specs.declared.Read.{Read}
 use Rattle.store_buffer.specs.declared.Read.the-variants.{There, Nowhere}
 use Rattle.store_buffer.specs.declared.Loaded.{Loaded}
 use Rattle.store_buffer.specs.declared.Loaded.the-variants as load-variants
-use Rattle.store_buffer.specs.declared.Target.{Target}
-use Rattle.store_buffer.specs.declared.Target.the-variants as to
-use Rattle.store_buffer.specs.Leaving.{target, wordOnly}
+use Rattle.store_buffer.specs.declared.Place.{Place}
+use Rattle.store_buffer.specs.declared.Place.the-variants as to
+use Rattle.store_buffer.specs.Leaving.{placeOf, wordOnly}
 use Rattle.store_buffer.specs.System.{isPort, memoryByte, reads, loaded, apicadr, ioapicadr}
 use Rattle.records.specs.Contents.{localPort, ioPort}
 use Rattle.steps.specs.declared.Answer.{Answer}
 use Rattle.steps.specs.declared.Answer.the-variants.{Done, Interrupt, Refused}
 use Rattle.steps.specs.declared.Step.{Step}
 use Rattle.cores.specs.Guards.{Judged, yield, ask, test}
-use Rattle.cores.specs.Core.{View, viewOf, isEvent, vectorOf, causes, suppressed, stopped, causesWithout, faulted, faultOf, physical, onLoad, onStore, onCas, exchanged, storedFrom, performed, plain, droppedBy, unlessSuppressed, isAccess, avoidsPorts, hasHazard, onAddress, onData, onAccess, onInstruction, findsBuffer, dataRequestOf, fetchRequestOf, onWord, onFetchAddress, onFetch, fetch, judged, coreStep, isFree, withoutAccess}
+use Rattle.cores.specs.Core.{View, viewOf, isEvent, vectorOf, causes, suppressed, stopped, causesWithout, faulted, faultOf, physical, onLoad, onStore, onCas, exchanged, storedFrom, performed, plain, droppedBy, unlessSuppressed, isAccess, avoidsPorts, hasHazard, onAddress, onData, onAccess, onInstruction, findsBuffer, dataRequestOf, fetchRequestOf, onWord, onFetchAddress, onFetch, fetch, judged, corePlan, isFree, withoutAccess}
 use Rattle.cores.specs.declared.CoreChange.{CoreChange}
 use Rattle.cores.specs.declared.CoreChange.the-variants as change
 use Rattle.cores.specs.declared.BufferChange.{BufferChange}
@@ -204,7 +204,7 @@ module _ (S : Pages) (L : Low S) (m b : List ℕ) (bs : Bytes m) (G : Good S b) 
           (if-both (Safe S m b) (suppressed (causes X c w false)) _ _ (λ _. stopped-safe X w _ WalkChange.Nothing tt)
           (λ e. performed-safe a x h (aligned-fits a (d c) (access-aligned c (registersOf b) w a (isEvent (X .eev)) false x e q)))))
 
-      data-safe : (wR : Walk) (f : Verdict) → isAccess c ≡ true → among wR (walks b) ≡ true → hit (dataRequestOf (registersOf b) c w) wR ≡ true → Judges (Safe S m b) (onData X m wR c w f)
+      data-safe : (wR : Walk) (f : Faulting) → isAccess c ≡ true → among wR (walks b) ≡ true → hit (dataRequestOf (registersOf b) c w) wR ≡ true → Judges (Safe S m b) (onData X m wR c w f)
       unfolding onData
       data-safe wR Passes x h k =
           judges-test (Safe S m b) (not (user (registersOf b)) || complete wR) _
@@ -255,7 +255,7 @@ module _ (S : Pages) (L : Low S) (m b : List ℕ) (bs : Bytes m) (G : Good S b) 
     word-safe wR (There w) = instruction-safe (decoded w) w wR
     word-safe wR Nowhere = record { met = λ _. refused-safe 7 }
 
-    fetch-safe : (wI wR : Walk) (f : Verdict) → Judges (Safe S m b) (onFetch X m wI wR f)
+    fetch-safe : (wI wR : Walk) (f : Faulting) → Judges (Safe S m b) (onFetch X m wI wR f)
     unfolding onFetch onFetchAddress
     fetch-safe wI wR Passes =
         judges-test (Safe S m b) (not (user (registersOf b)) || complete wI) _
@@ -263,8 +263,8 @@ module _ (S : Pages) (L : Low S) (m b : List ℕ) (bs : Bytes m) (G : Good S b) 
     fetch-safe wI wR Faults = judges-yield (Safe S m b) _ (stopped-safe X 0 (causesWithout X false true) (faulted (registersOf b) (registersOf b .pc)) tt)
     fetch-safe wI wR Undecided = record { met = λ _. refused-safe 7 }
 
-    core-safe : (wI wR : Walk) → Safe S m b (coreStep X m wI wR)
-    unfolding coreStep judged fetch
+    core-safe : (wI wR : Walk) → Safe S m b (corePlan X m wI wR)
+    unfolding corePlan judged fetch
     core-safe wI wR =
         judges-settle (Safe S m b) refused _ refused-safe
         (judges-ask (Safe S m b) (test (X .running) ∷ []) _
@@ -387,7 +387,7 @@ module _ (S : Pages) (L : Low S) (m b : List ℕ) (bs : Bytes m) (G : Good S b) 
     -- ---- the store buffer: the oldest store goes to a page that its side may write
 
     drain-safe : (l : List Store) → Each (StoreOk S) l → Safe S m b (bufferStep l (length m))
-    unfolding onOldest target
+    unfolding onOldest placeOf
     drain-safe [] h = refused-safe 6
     drain-safe (x ∷ l) h =
         rw (low-local (x .address) (L (page (x .address)) (writable-reached S (page (x .address)) (h .0 .writable))), low-io (x .address) (L (page (x .address)) (writable-reached S (page (x .address)) (h .0 .writable))))

@@ -13,7 +13,7 @@ use Rattle.steps.specs.declared.Answer.{Answer}
 use Rattle.reach.specs.Lists.{range, has, select}
 use Rattle.reach.specs.Reach.{Pages, reached, reach, inMemory, members}
 use Rattle.separation.specs.declared.Verdict.the-variants.{Yes}
-use Rattle.separation.specs.Separation.{Machine, Given, verdict, Point, View, start, called, next, after, may, admitted, isOwn, pageOf, seen, observed, observes, group, others, reachable, Alike, Framed, Demand3}
+use Rattle.separation.specs.Separation.{Machine, Given, verdict, Point, View, start, called, next, afterCalls, may, admitted, isOwn, pageOf, seen, observed, observes, group, others, reachable, Alike, Framed, Demand3}
 use Rattle.reach.proofs.Lists.{tested, In, in-range, in-select, select-in, same-map}
 use Rattle.separation.proofs.TwoLists.{trace, allowed, two-lists, kept-after}
 use Rattle.separation.proofs.TwoLists as lists
@@ -37,12 +37,12 @@ unfolding admitted allowed
 admitted-is x [] = refl
 admitted-is x (s ∷ l) = ap (λ (b : Bool). may x s && b) (admitted-is (next x s) l)
 
-after-is : (x : Point) (l : List (List ℕ)) → after x l ≡ lists.reached next may x l
-unfolding after lists.reached
+after-is : (x : Point) (l : List (List ℕ)) → afterCalls x l ≡ lists.reached next may x l
+unfolding afterCalls lists.reached
 after-is x [] = refl
 after-is x (s ∷ l) = after-is (next x s) l
 
-frame : (g : ℕ) (M : Machine) → Given M → verdict g M ≡ Yes → (l : List (List ℕ)) → admitted (start M) l ≡ true → (n : ℕ) → Framed g M (after (start M) (take n l))
+frame : (g : ℕ) (M : Machine) → Given M → verdict g M ≡ Yes → (l : List (List ℕ)) → admitted (start M) l ≡ true → (n : ℕ) → Framed g M (afterCalls (start M) (take n l))
 frame g M I e l q n =
     subst (Framed g M) (sym (after-is (start M) (take n l)))
     (framed g M I e (lists.reached next may (start M) (take n l))

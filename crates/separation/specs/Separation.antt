@@ -92,9 +92,9 @@ next x s =
       going = if isInterrupt (called x s .answer) then select (λ k. not (eqb k (word s 1))) (x .going) else x .going;
     }
 
-unfoldable pub after : Point → List (List ℕ) → Point
-after x [] = x
-after x (s ∷ l) = after (next x s) l
+unfoldable pub afterCalls : Point → List (List ℕ) → Point
+afterCalls x [] = x
+afterCalls x (s ∷ l) = afterCalls (next x s) l
 
 -- Each step has kind 0 to 4 and names such a core; its other words are free (a call of more or fewer than six words is refused 5).
 abbrev pub may : Point → List ℕ → Bool
@@ -154,8 +154,8 @@ pub record Framed (g : ℕ) (M : Machine) (x : Point) : Type 0 where
 pub record Separated (g : ℕ) (M N : Machine) (l r : List (List ℕ)) : Type 0 where
   pub pages : reachable g M ≡ reachable g N
   pub same : observes g M l ≡ observes g N r
-  pub first : (n : ℕ) → Framed g M (after (start M) (take n l))
-  pub second : (n : ℕ) → Framed g N (after (start N) (take n r))
+  pub first : (n : ℕ) → Framed g M (afterCalls (start M) (take n l))
+  pub second : (n : ℕ) → Framed g N (afterCalls (start N) (take n r))
 
 -- what a verdict of yes on M promises, beside any other machine with that verdict that is alike for the group
 abbrev pub Promised : ℕ → Machine → Type 0

@@ -16,7 +16,7 @@ use Rattle.store_buffer.specs.Buffer.{sbehit, sbhit, newestFrom, sbv, some, sbh
 use Rattle.store_buffer.specs.System.{msOf, reads, loaded}
 use Rattle.store_buffer.specs.Figures.{pending, pendingLoad, valueOf}
 use Rattle.apic.specs.Vectors.{withBit, withVector, least}
-use Rattle.apic.specs.LocalApic.{ended, written}
+use Rattle.apic.specs.LocalApic.{eoiWritten, portWritten}
 use Rattle.apic.specs.Figures.{isrAfterEoi}
 use Rattle.isa.specs.declared.registers.Registers.{Registers}
 use Rattle.isa.specs.Core.{deltaInstr, gprw, rdes, cad, gprdin}
@@ -85,5 +85,5 @@ figures =
     []
 
 pub figures-hold : map (λ (f : Figure). f .found) figures ≡ map (λ (f : Figure). f .printed) figures
-unfolding deltaInstr decoded rowOf alures ovf alucon mures bcres signed sxt gprw rdes cad gprdin itype rtype compi compr alu mulacc b jump su load cas jal jalr movg2s movs2g mfhi mflo mthi mtlo mul sbehit sbhit newestFrom sbv some sbhazard msOf reads loaded walkOf written ended least withVector withBit
+unfolding deltaInstr decoded rowOf alures ovf alucon mures bcres signed sxt gprw rdes cad gprdin itype rtype compi compr alu mulacc b jump su load cas jal jalr movg2s movs2g mfhi mflo mthi mtlo mul sbehit sbhit newestFrom sbv some sbhazard msOf reads loaded walkOf portWritten eoiWritten least withVector withBit
 figures-hold = refl

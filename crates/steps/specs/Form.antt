@@ -38,8 +38,8 @@ abbrev pub orNot : Bool → Step → Step
 orNot t s = if t then s else NotAStep
 
 -- a step of a core: kinds 0 to 8
-abbrev pub coreStep : ℕ → ℕ → List ℕ → Step
-coreStep kind k s =
+abbrev pub stepOfCore : ℕ → ℕ → List ℕ → Step
+stepOfCore kind k s =
     if eqb kind 0 then Core k (walkAt s 2) (walkAt s 4)
     else if eqb kind 1 then orNot (ltb (word s 2) (2 ^ 20) && zero3 s) (TlbCreate k (word s 2))
     else if eqb kind 2 then orNot (ltb (word s 4) (2 ^ 3) && zero5 s) (TlbExtend k (walkAt s 2))
@@ -51,8 +51,8 @@ coreStep kind k s =
     else orNot (zero2 s) (StartCore k)
 
 -- a step on a line: kinds 9 to 11
-abbrev pub lineStep : ℕ → ℕ → List ℕ → Step
-lineStep kind n s =
+abbrev pub stepOfLine : ℕ → ℕ → List ℕ → Step
+stepOfLine kind n s =
     if eqb kind 9 then orNot (zero2 s) (Sample n)
     else if eqb kind 10 then orNot (zero2 s) (Deliver n)
     else orNot (ltb (word s 2) 2 && zero3 s) (SetLine n (word s 2))
@@ -61,7 +61,7 @@ lineStep kind n s =
 unfoldable pub stepOf : ℕ → List ℕ → Step
 stepOf n s =
     if eqb (length s) 6 then
-    (if ltb (word s 0) 9 then orNot (ltb (word s 1) n) (coreStep (word s 0) (word s 1) s)
-    else if ltb (word s 0) 12 then orNot (ltb (word s 1) lineCount) (lineStep (word s 0) (word s 1) s)
+    (if ltb (word s 0) 9 then orNot (ltb (word s 1) n) (stepOfCore (word s 0) (word s 1) s)
+    else if ltb (word s 0) 12 then orNot (ltb (word s 1) lineCount) (stepOfLine (word s 0) (word s 1) s)
     else NotAStep)
     else NotAStep

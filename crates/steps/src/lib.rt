@@ -79,7 +79,7 @@ fn or_not(t: bool, s: Step) -> Step
 
 fn core_step(kind: u32, k: u32, s: &[u32]) -> Step
     requires { ⌜ length (now s) ≡ 6 ⌝ }
-    ensures { λ r. ⌜ r ≡ f.coreStep kind k (now (s .entry)) ⌝ }
+    ensures { λ r. ⌜ r ≡ f.stepOfCore kind k (now (s .entry)) ⌝ }
 {
     match kind {
         0 => Step::Core(k, walk_at(s, 2), walk_at(s, 4)),
@@ -96,7 +96,7 @@ fn core_step(kind: u32, k: u32, s: &[u32]) -> Step
 
 fn line_step(kind: u32, n: u32, s: &[u32]) -> Step
     requires { ⌜ length (now s) ≡ 6 ⌝ }
-    ensures { λ r. ⌜ r ≡ f.lineStep kind n (now (s .entry)) ⌝ }
+    ensures { λ r. ⌜ r ≡ f.stepOfLine kind n (now (s .entry)) ⌝ }
 {
     match kind {
         9 => or_not(zero2(s), Step::Sample(n)),

@@ -12,7 +12,7 @@ use Rattle.word.proofs.Laws.{side}
 use Rattle.records.specs.declared.Store.{Store}
 use Rattle.records.proofs.Counts.{either}
 use Rattle.store_buffer.specs.Buffer.{sbehit}
-use Rattle.store_buffer.specs.Pass.{Cover, whole, part, apart, cover}
+use Rattle.store_buffer.specs.Pass.{Cover, whole, part, outside, cover}
 
 -- ---- distances modulo 2 ^ 32
 
@@ -45,7 +45,7 @@ module _ (s : Store) (a d : ℕ) (f : a < 2 ^ 32) (g : s .address < 2 ^ 32) (w :
   module _ (P : Cover → Type 0)
       (all : ((j : ℕ) → j < d → sbehit s (plus 32 a j) ≡ true) → P whole)
       (some : (j k : ℕ) → j < d → k < d → sbehit s (plus 32 a j) ≡ true → sbehit s (plus 32 a k) ≡ false → P part)
-      (none : ((j : ℕ) → j < d → sbehit s (plus 32 a j) ≡ false) → P apart)
+      (none : ((j : ℕ) → j < d → sbehit s (plus 32 a j) ≡ false) → P outside)
       (pos : 0 < d)
     where
       -- a's byte is written

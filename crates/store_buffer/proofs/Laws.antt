@@ -17,10 +17,10 @@ use Rattle.layout.specs.Layout.{ports}
 use Rattle.records.specs.declared.Store.{Store}
 use Rattle.records.specs.Records.{stores}
 use Rattle.records.specs.Contents.{localPort, ioPort, there, allThere}
-use Rattle.store_buffer.specs.declared.Target.{Target}
-use Rattle.store_buffer.specs.declared.Target.the-variants.{LocalPort, IoPort, Narrow, Memory, Beyond}
+use Rattle.store_buffer.specs.declared.Place.{Place}
+use Rattle.store_buffer.specs.declared.Place.the-variants.{LocalPort, IoPort, Narrow, Memory, Beyond}
 use Rattle.store_buffer.specs.System.{Ports, portsOf, memoryByte, msOf, ms, loaded, apicadr, ioapicadr}
-use Rattle.store_buffer.specs.Leaving.{target}
+use Rattle.store_buffer.specs.Leaving.{placeOf}
 use Rattle.store_buffer.proofs.Access.{InWord, reads-same}
 use Rattle.store_buffer.proofs.Pass.{or-true}
 use Rattle.store_buffer.proofs.Beneath.{local-same, io-same}
@@ -50,7 +50,7 @@ load-block b c m select window a d e f = ap (λ (sb : List Store). loaded sb (po
 -- ---- where an aligned store goes
 
 -- it goes to bytes that are there
-abbrev pub reached : Target → Bool
+abbrev pub reached : Place → Bool
 reached Beyond = false
 reached (LocalPort k) = true
 reached (IoPort k) = true
@@ -80,16 +80,16 @@ module _ (n : ℕ) (s : Store) (low : s .address < 2 ^ 32) (w : InWord (s .addre
       ∙ ap (λ (t : Bool). ltb (s .address + j) n || (q || t)) (local-same (s .address) (s .width) low w j h ∙ e)
 
   -- a store whose bytes are there is one whose target is not beyond memory
-  pub target-there : allThere (s .width) n (s .address) ≡ reached (target n s)
-  unfolding target
+  pub target-there : allThere (s .width) n (s .address) ≡ reached (placeOf n s)
+  unfolding placeOf
   target-there = go (localPort (s .address)) (ioPort (s .address)) refl refl
     where
-      narrow : (t : Bool) (k : Target) → reached k ≡ true → true ≡ reached (if t then k else Narrow)
+      narrow : (t : Bool) (k : Place) → reached k ≡ true → true ≡ reached (if t then k else Narrow)
       narrow true k e = sym e
       narrow false k e = refl
 
       go : (p q : Bool) → localPort (s .address) ≡ p → ioPort (s .address) ≡ q
-          → allThere (s .width) n (s .address) ≡ reached (target n s)
+          → allThere (s .width) n (s .address) ≡ reached (placeOf n s)
       go true q e f = all-there (s .width) n (s .address) (λ j h. in-port true q e f j h ∙ ap (λ (t : Bool). ltb (s .address + j) n || t) (or-true q) ∙ or-true (ltb (s .address + j) n)) ∙ rw e (narrow (eqb (s .width) 4) (LocalPort (apicadr (s .address))) refl)
       go false true e f = all-there (s .width) n (s .address) (λ j h. in-port false true e f j h ∙ or-true (ltb (s .address + j) n)) ∙ rw (e, f) (narrow (eqb (s .width) 4) (IoPort (ioapicadr (s .address))) refl)
       go false false e f =

@@ -18,10 +18,10 @@ use Rattle.records.proofs.Counts.{either}
 use Rattle.records.proofs.Along.{Along, along-start, along-first, along-next, along-chain, along-less, along-end, store-chain}
 use Rattle.store_buffer.specs.declared.Hit.{Hit}
 use Rattle.store_buffer.specs.declared.Hit.the-variants.{At, Miss}
-use Rattle.store_buffer.specs.declared.Found.{Found}
-use Rattle.store_buffer.specs.declared.Found.the-variants.{Nothing, One, Mixed}
+use Rattle.store_buffer.specs.declared.Source.{Source}
+use Rattle.store_buffer.specs.declared.Source.the-variants.{Nothing, One, Mixed}
 use Rattle.store_buffer.specs.Buffer.{sbehit, newestFrom, maxsbhit, sameHit, some, sbhazard}
-use Rattle.store_buffer.specs.Pass.{cover, onCover, found}
+use Rattle.store_buffer.specs.Pass.{cover, onCover, sourceOf}
 use Rattle.store_buffer.proofs.Cover.{cover-cases}
 
 -- ---- hits
@@ -87,18 +87,18 @@ module _ (sb : List Store) (a d : ℕ) where
 -- ---- the pass
 
 -- what is found after the stores in the records l, of which the first has place i
-unfoldable pub pass : List ℕ → ℕ → ℕ → ℕ → Found → List ℕ → Found
+unfoldable pub pass : List ℕ → ℕ → ℕ → ℕ → Source → List ℕ → Source
 pass b a d i f [] = f
 pass b a d i f (n ∷ l) = pass b a d (i + 1) (onCover (cover (storeIn b n .address) (storeIn b n .width) a d) i n f) l
 
 -- what is found says of the hits h of the d bytes, where the stores stand in the records N
-unfoldable Summed : (ℕ → Hit) → ℕ → List ℕ → Found → Type 0
+unfoldable Summed : (ℕ → Hit) → ℕ → List ℕ → Source → Type 0
 Summed h d N Nothing = (j : ℕ) → j < d → h j ≡ Miss
 Summed h d N (One i n) = ((j : ℕ) → j < d → h j ≡ At i) × (n ≡ getD N i 0)
 Summed h d N Mixed = (j : ℕ) × (k : ℕ) × (j < d) × (k < d) × (sameHit (h j) (h k) ≡ false)
 
 -- pointwise equal hits
-same-sum : (g h : ℕ → Hit) (d : ℕ) (N : List ℕ) (f : Found) → ((j : ℕ) → j < d → g j ≡ h j) → Summed h d N f → Summed g d N f
+same-sum : (g h : ℕ → Hit) (d : ℕ) (N : List ℕ) (f : Source) → ((j : ℕ) → j < d → g j ≡ h j) → Summed h d N f → Summed g d N f
 unfolding Summed
 same-sum g h d N Nothing e s = λ j p. e j p ∙ s j p
 same-sum g h d N (One i n) e s = ((λ j p. e j p ∙ s .0 j p), s .1)
@@ -129,7 +129,7 @@ module _ (b N : List ℕ) (a d : ℕ) (words : (m : ℕ) → getD b m 0 < 2 ^ 32
   next-miss : (i : ℕ) (s : Store) (h : ℕ → Hit) (j : ℕ) → sbehit s (plus 32 a j) ≡ false → next i s h j ≡ h j
   next-miss i s h j e = rw e
 
-  sum-step : (i n : ℕ) (h : ℕ → Hit) (f : Found) → Fresh i h → n ≡ getD N i 0 → Summed h d N f
+  sum-step : (i n : ℕ) (h : ℕ → Hit) (f : Source) → Fresh i h → n ≡ getD N i 0 → Summed h d N f
       → Summed (next i (storeIn b n) h) d N (onCover (cover (storeIn b n .address) (storeIn b n .width) a d) i n f)
   unfolding Summed
   sum-step i n h f fresh e s =
@@ -140,7 +140,7 @@ module _ (b N : List ℕ) (a d : ℕ) (words : (m : ℕ) → getD b m 0 < 2 ^ 32
       (λ none. same-sum (next i (storeIn b n) h) h d N f (λ j p. next-miss i (storeIn b n) h j (none j p)) s)
       pos
 
-  pass-sum : (l : List ℕ) (i : ℕ) (h : ℕ → Hit) (f : Found) → Fresh i h → ((k : ℕ) → k < length l → getD l k 0 ≡ getD N (i + k) 0) → Summed h d N f
+  pass-sum : (l : List ℕ) (i : ℕ) (h : ℕ → Hit) (f : Source) → Fresh i h → ((k : ℕ) → k < length l → getD l k 0 ≡ getD N (i + k) 0) → Summed h d N f
       → Summed (λ j. newestFrom i (h j) (map (storeIn b) l) (plus 32 a j)) d N (pass b a d i f l)
   unfolding pass newestFrom
   pass-sum [] i h f fresh here s = s
@@ -162,19 +162,19 @@ module _ (b : List ℕ) (a d : ℕ) (words : (m : ℕ) → getD b m 0 < 2 ^ 32) 
   first-byte : (h : Hit) → ((j : ℕ) → j < d → hitOf (stores b) a d j ≡ h) → maxsbhit (stores b) a ≡ h
   first-byte h f = let e : a ≡ plus 32 a 0 = omega arith in ap (maxsbhit (stores b)) e ∙ f 0 pos
 
-  sum-found : (f : Found) → Summed (hitOf (stores b) a d) d (storeNumbers b) f → f ≡ found b a d
-  unfolding Summed found
+  sum-found : (f : Source) → Summed (hitOf (stores b) a d) d (storeNumbers b) f → f ≡ sourceOf b a d
+  unfolding Summed sourceOf
   sum-found Nothing s = rw (hazard-no (stores b) a d Miss s, first-byte Miss s)
   sum-found (One i n) s = rw (hazard-no (stores b) a d (At i) (s .0), first-byte (At i) (s .0), s .1)
   sum-found Mixed s = rw (hazard-yes (stores b) a d (s .0) (s .1) (s .2) (s .3) (s .4))
 
-  pub pass-found : pass b a d 0 Nothing (storeNumbers b) ≡ found b a d
+  pub pass-found : pass b a d 0 Nothing (storeNumbers b) ≡ sourceOf b a d
   pass-found = sum-found (pass b a d 0 Nothing (storeNumbers b)) whole-sum
 
 -- ---- along the chain
 
 -- the invariant of `find`: at record n, whose store has the place given, what is to come decides
-pub record Passing (b : List ℕ) (a d : ℕ) (f : Found) (place n : ℕ) : Type 0 where
+pub record Passing (b : List ℕ) (a d : ℕ) (f : Source) (place n : ℕ) : Type 0 where
   pub at : ℕ
   pub along : Along b storeHead (storeNumbers b) at n
   pub few : place + length (chain 32 b n) < 32
@@ -185,7 +185,7 @@ passing-start b a d long e =
     let C = store-chain b long e in
     record { at = storeHead; along = along-start b storeHead (storeNumbers b) C; few = omega (arith, C .short); same = refl }
 
-module _ {b : List ℕ} {a d : ℕ} {f : Found} {place n : ℕ} (P : Passing b a d f place n) where
+module _ {b : List ℕ} {a d : ℕ} {f : Source} {place n : ℕ} (P : Passing b a d f place n) where
   pub passing-low : n < 32
   passing-low = P .along .below
 
@@ -200,7 +200,7 @@ module _ {b : List ℕ} {a d : ℕ} {f : Found} {place n : ℕ} (P : Passing b a
     pub passing-less : length (chain 32 b (getD b (recordAt n) 0)) < length (chain 32 b n)
     passing-less = along-less (P .along) z
 
-    pub passing-next : {g : Found} → g ≡ onCover (cover (storeIn b n .address) (storeIn b n .width) a d) place n f → Passing b a d g (place + 1) (getD b (recordAt n) 0)
+    pub passing-next : {g : Source} → g ≡ onCover (cover (storeIn b n .address) (storeIn b n .width) a d) place n f → Passing b a d g (place + 1) (getD b (recordAt n) 0)
     unfolding pass
     passing-next {g} e =
         record {
@@ -208,12 +208,12 @@ module _ {b : List ℕ} {a d : ℕ} {f : Found} {place n : ℕ} (P : Passing b a
           along = along-next (P .along) z;
           few = omega (arith, P .few, passing-less);
           same =
-              ap (λ (h : Found). pass b a d (place + 1) h (chain 32 b (getD b (recordAt n) 0))) e
+              ap (λ (h : Source). pass b a d (place + 1) h (chain 32 b (getD b (recordAt n) 0))) e
               ∙ ap (λ (l : List ℕ). pass b a d place f l) (sym chain-next)
               ∙ P .same;
         }
 
-  pub passing-end : n ≡ 0 → ((m : ℕ) → getD b m 0 < 2 ^ 32) → a < 2 ^ 32 → 0 < d → f ≡ found b a d
+  pub passing-end : n ≡ 0 → ((m : ℕ) → getD b m 0 < 2 ^ 32) → a < 2 ^ 32 → 0 < d → f ≡ sourceOf b a d
   unfolding pass
   passing-end z words low pos =
       ap (λ (l : List ℕ). pass b a d place f l) (sym (along-chain (P .along) ∙ along-end (P .along) z)) ∙ P .same ∙ pass-found b a d words low pos

@@ -21,11 +21,11 @@ use Rattle.store_buffer.specs.declared.Hit.{Hit}
 use Rattle.store_buffer.specs.declared.Hit.the-variants.{At, Miss}
 use Rattle.store_buffer.specs.declared.Read.{Read}
 use Rattle.store_buffer.specs.declared.Read.the-variants.{There, Nowhere}
-use Rattle.store_buffer.specs.declared.Found.the-variants.{Nothing, One, Mixed}
+use Rattle.store_buffer.specs.declared.Source.the-variants.{Nothing, One, Mixed}
 use Rattle.store_buffer.specs.declared.Loaded.the-variants.{Value, Hazard}
 use Rattle.store_buffer.specs.Buffer.{sbehit, sbhit, sbv, maxsbhit, some, sbhazard}
 use Rattle.store_buffer.specs.System.{Ports, msOf, ms, reads, aligned, sized, onRead, loaded}
-use Rattle.store_buffer.specs.Pass.{found, foundBy}
+use Rattle.store_buffer.specs.Pass.{sourceOf, sourceBy}
 use Rattle.store_buffer.proofs.Access.{InWord, aligned-word, reads-same, reads-part}
 use Rattle.store_buffer.proofs.Hits.{Newest, newest-law, none-hits, one-hits, no-hazard}
 
@@ -96,12 +96,12 @@ all-at q (x ∷ l) zero e h p = and-left (q x) (all q l) h
 all-at q (x ∷ l) (suc i) e h p = all-at q l i e (and-right (q x) (all q l) h) (omega arith)
 
 module _ (b : List ℕ) where
-  by-nothing : (t : Bool) (h : Hit) → Nothing ≡ (if t then Mixed else foundBy b h) → (t ≡ false) × (h ≡ Miss)
+  by-nothing : (t : Bool) (h : Hit) → Nothing ≡ (if t then Mixed else sourceBy b h) → (t ≡ false) × (h ≡ Miss)
   by-nothing true h e = let z : _≡_ {A = ℕ} 0 1 = cc in absurd (omega arith)
   by-nothing false (At i) e = let z : _≡_ {A = ℕ} 0 1 = cc in absurd (omega arith)
   by-nothing false Miss e = (refl, refl)
 
-  by-one : (i n : ℕ) (t : Bool) (h : Hit) → One i n ≡ (if t then Mixed else foundBy b h) → (t ≡ false) × (h ≡ At i) × (n ≡ getD (storeNumbers b) i 0)
+  by-one : (i n : ℕ) (t : Bool) (h : Hit) → One i n ≡ (if t then Mixed else sourceBy b h) → (t ≡ false) × (h ≡ At i) × (n ≡ getD (storeNumbers b) i 0)
   by-one i n true h e = let z : _≡_ {A = ℕ} 0 1 = cc in absurd (omega arith)
   by-one i n false (At k) e =
       let p : i ≡ k = cc in
@@ -109,36 +109,36 @@ module _ (b : List ℕ) where
       (refl, ap At (sym p), q ∙ ap (λ (j : ℕ). getD (storeNumbers b) j 0) (sym p))
   by-one i n false Miss e = let z : _≡_ {A = ℕ} 0 1 = cc in absurd (omega arith)
 
-  by-mixed : (t : Bool) (h : Hit) → Mixed ≡ (if t then Mixed else foundBy b h) → t ≡ true
+  by-mixed : (t : Bool) (h : Hit) → Mixed ≡ (if t then Mixed else sourceBy b h) → t ≡ true
   by-mixed true h e = refl
   by-mixed false (At i) e = let z : _≡_ {A = ℕ} 0 1 = cc in absurd (omega arith)
   by-mixed false Miss e = let z : _≡_ {A = ℕ} 0 1 = cc in absurd (omega arith)
 
 module _ (b : List ℕ) (a d : ℕ) where
-  pub found-nothing : Nothing ≡ found b a d → (sbhazard (stores b) a d ≡ false) × (maxsbhit (stores b) a ≡ Miss)
-  unfolding found
+  pub found-nothing : Nothing ≡ sourceOf b a d → (sbhazard (stores b) a d ≡ false) × (maxsbhit (stores b) a ≡ Miss)
+  unfolding sourceOf
   found-nothing e = by-nothing b (sbhazard (stores b) a d) (maxsbhit (stores b) a) e
 
-  pub found-one : (i n : ℕ) → One i n ≡ found b a d → (sbhazard (stores b) a d ≡ false) × (maxsbhit (stores b) a ≡ At i) × (n ≡ getD (storeNumbers b) i 0)
-  unfolding found
+  pub found-one : (i n : ℕ) → One i n ≡ sourceOf b a d → (sbhazard (stores b) a d ≡ false) × (maxsbhit (stores b) a ≡ At i) × (n ≡ getD (storeNumbers b) i 0)
+  unfolding sourceOf
   found-one i n e = by-one b i n (sbhazard (stores b) a d) (maxsbhit (stores b) a) e
 
-  pub found-mixed : Mixed ≡ found b a d → sbhazard (stores b) a d ≡ true
-  unfolding found
+  pub found-mixed : Mixed ≡ sourceOf b a d → sbhazard (stores b) a d ≡ true
+  unfolding sourceOf
   found-mixed e = by-mixed b (sbhazard (stores b) a d) (maxsbhit (stores b) a) e
 
   module _ (p : Ports) (m : List ℕ) (low : a < 2 ^ 32) (w : InWord a d) where
-    pub load-mixed : Mixed ≡ found b a d → Hazard ≡ loaded (stores b) p m a d
+    pub load-mixed : Mixed ≡ sourceOf b a d → Hazard ≡ loaded (stores b) p m a d
     unfolding loaded
     load-mixed e = rw (found-mixed e)
 
-    pub load-beneath : {r : Read} → Nothing ≡ found b a d → r ≡ reads d (ms [] p m) a → onRead Miss r ≡ loaded (stores b) p m a d
+    pub load-beneath : {r : Read} → Nothing ≡ sourceOf b a d → r ≡ reads d (ms [] p m) a → onRead Miss r ≡ loaded (stores b) p m a d
     unfolding loaded
     load-beneath {r} e f =
         let s = found-nothing e in
         rw (s .0, s .1, f, served-by-none (stores b) p m a d low w (s .0) (s .1))
 
-    module _ (long : length b ≡ 256) (sound : soundRecords (length m) b ≡ true) (words : (k : ℕ) → getD b k 0 < 2 ^ 32) (i n : ℕ) (e : One i n ≡ found b a d) where
+    module _ (long : length b ≡ 256) (sound : soundRecords (length m) b ≡ true) (words : (k : ℕ) → getD b k 0 < 2 ^ 32) (i n : ℕ) (e : One i n ≡ sourceOf b a d) where
       chains : linked b ≡ true
       chains = parts-of (length m) b sound .0
 

@@ -8,8 +8,8 @@ use Rattle.records.specs.declared.Store.{Store}
 use Rattle.records.specs.Contents.{localPort, ioPort}
 use Rattle.store_buffer.specs.declared.Oldest.{Oldest}
 use Rattle.store_buffer.specs.declared.Oldest.the-variants.{Empty, Leaves}
-use Rattle.store_buffer.specs.declared.Target.{Target}
-use Rattle.store_buffer.specs.declared.Target.the-variants.{LocalPort, IoPort, Narrow, Memory, Beyond}
+use Rattle.store_buffer.specs.declared.Place.{Place}
+use Rattle.store_buffer.specs.declared.Place.the-variants.{LocalPort, IoPort, Narrow, Memory, Beyond}
 use Rattle.store_buffer.specs.System.{apicadr, ioapicadr}
 
 -- an empty buffer makes no step
@@ -18,12 +18,12 @@ oldest [] = Empty
 oldest (s ∷ sb) = Leaves s
 
 -- ports take words only
-abbrev pub wordOnly : Store → Target → Target
+abbrev pub wordOnly : Store → Place → Place
 wordOnly s t = if eqb (s .width) 4 then t else Narrow
 
 -- a port at its port address, or memory of n bytes
-unfoldable pub target : ℕ → Store → Target
-target n s =
+unfoldable pub placeOf : ℕ → Store → Place
+placeOf n s =
     if localPort (s .address) then wordOnly s (LocalPort (apicadr (s .address))) else
     if ioPort (s .address) then wordOnly s (IoPort (ioapicadr (s .address))) else
     if leb (s .address + s .width) n then Memory else

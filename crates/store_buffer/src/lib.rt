@@ -46,7 +46,7 @@ pub enum Oldest {
 }
 
 // Where a store goes when it leaves: a port at its port address, memory, or nowhere, as it is too narrow for a port or beyond memory.
-pub enum Target {
+pub enum Place {
     LocalPort(u32),
     IoPort(u32),
     Narrow,
@@ -55,7 +55,7 @@ pub enum Target {
 }
 
 // The newest pending store of all bytes of an access: none, one at a place in a record, or not the same one for all.
-pub enum Found {
+pub enum Source {
     Nothing,
     One(usize, u32),
     Mixed,
@@ -63,41 +63,41 @@ pub enum Found {
 
 // What is found after one more store, at a place in a record.
 fn found_after(
-    f: Found,
+    f: Source,
     place: usize,
     number: u32,
     address: u32,
     width: u32,
     a: u32,
     d: u32,
-) -> Found
+) -> Source
     ensures { λ r. ⌜ r ≡ p.onCover (p.cover address width a d) place number f ⌝ }
 {
     let offset = word::sub(a, address);
     if offset < width {
         if d <= width - offset {
-            return Found::One(place, number);
+            return Source::One(place, number);
         }
-        return Found::Mixed;
+        return Source::Mixed;
     }
     let before = word::sub(address, a);
     if before < d {
         if width == 0 {
             return f;
         }
-        return Found::Mixed;
+        return Source::Mixed;
     }
     f
 }
 
 // The newest pending store of an access, in one pass.
-fn find(b: &[u32], a: u32, d: u32) -> Found
+fn find(b: &[u32], a: u32, d: u32) -> Source
     requires { ⌜ length (now b) ≡ 256 ⌝ }
     requires { ⌜ linked (now b) ≡ true ⌝ }
     requires { ⌜ 0 < d ⌝ }
-    ensures { λ r. ⌜ r ≡ p.found (now (b .entry)) a d ⌝ }
+    ensures { λ r. ⌜ r ≡ p.sourceOf (now (b .entry)) a d ⌝ }
 {
-    let mut f = Found::Nothing;
+    let mut f = Source::Nothing;
     let mut place: usize = 0;
     let mut n = b[STORE_HEAD];
     while n != 0 {
@@ -118,9 +118,9 @@ pub fn hazard(b: &[u32], a: u32, d: u32) -> bool
 {
     let f = find(b, a, d);
     match f {
-        Found::Nothing => false,
-        Found::One(_, _) => false,
-        Found::Mixed => true,
+        Source::Nothing => false,
+        Source::One(_, _) => false,
+        Source::Mixed => true,
     }
 }
 
@@ -206,15 +206,15 @@ pub fn load(b: &[u32], select: u32, window: u32, memory: &[u8], a: u32, d: u32) 
 {
     let f = find(b, a, d);
     match f {
-        Found::Nothing => {
+        Source::Nothing => {
             let r = read_beneath(b, select, window, memory, a, d);
             match r {
                 Read::There(v) => Loaded::Value(v, Hit::Miss),
                 Read::Nowhere => Loaded::Nowhere,
             }
         }
-        Found::One(place, number) => Loaded::Value(forwarded(b, number, a, d), Hit::At(place)),
-        Found::Mixed => Loaded::Hazard,
+        Source::One(place, number) => Loaded::Value(forwarded(b, number, a, d), Hit::At(place)),
+        Source::Mixed => Loaded::Hazard,
     }
 }
 
@@ -237,26 +237,26 @@ pub fn oldest_store(b: &[u32]) -> Oldest
 }
 
 // Ports take words only.
-fn word_only(s: Store, t: Target) -> Target
+fn word_only(s: Store, t: Place) -> Place
     ensures { λ r. ⌜ r ≡ z.wordOnly s t ⌝ }
 {
-    if s.width == 4 { t } else { Target::Narrow }
+    if s.width == 4 { t } else { Place::Narrow }
 }
 
 // Where a store goes, with memory of so many bytes.
-pub fn destination(s: Store, bytes: usize) -> Target
-    ensures { λ r. ⌜ r ≡ z.target bytes s ⌝ }
+pub fn destination(s: Store, bytes: usize) -> Place
+    ensures { λ r. ⌜ r ≡ z.placeOf bytes s ⌝ }
 {
     let a = s.address;
     let at = a as usize;
     if (LOCAL_PORTS <= at) & (at < LOCAL_PORTS + LOCAL_PORT_BYTES) {
-        return word_only(s, Target::LocalPort(word::sub(a, LOCAL_PORTS as u32)));
+        return word_only(s, Place::LocalPort(word::sub(a, LOCAL_PORTS as u32)));
     }
     if (IO_PORTS <= at) & (at < IO_PORTS + IO_PORT_BYTES) {
-        return word_only(s, Target::IoPort(word::sub(a, IO_PORTS as u32)));
+        return word_only(s, Place::IoPort(word::sub(a, IO_PORTS as u32)));
     }
     if at + s.width as usize <= bytes {
-        return Target::Memory;
+        return Place::Memory;
     }
-    Target::Beyond
+    Place::Beyond
 }

@@ -12,7 +12,7 @@ use Rattle.records.proofs.Counts.{and-left, and-right}
 use Rattle.tlb.specs.declared.Request.{Request}
 use Rattle.tlb.specs.declared.Entry.{Entry}
 use Rattle.tlb.specs.declared.Entry.the-variants.{Word, Missing}
-use Rattle.tlb.specs.declared.Verdict.the-variants.{Faults, Passes, Undecided}
+use Rattle.tlb.specs.declared.Faulting.the-variants.{Faults, Passes, Undecided}
 use Rattle.tlb.specs.Walks.{walkVa, walkAsid, walkR, complete, suffices, storeR, hit, pte, wextFault, entryFault, faultBy, fault}
 
 -- the verdict of an extension, by the entry and its fault f

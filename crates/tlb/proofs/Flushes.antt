@@ -12,7 +12,7 @@ use Rattle.records.specs.declared.Walk.{Walk}
 use Rattle.records.specs.declared.Flush.the-variants.{All, Page, Incomplete}
 use Rattle.records.specs.Records.{goes, staying}
 use Rattle.records.proofs.Counts.{and-left, and-right, and-both}
-use Rattle.tlb.specs.Walks.{walkVa, walkAsid, complete, keep, flush, flushIncomplete, pageKey}
+use Rattle.tlb.specs.Walks.{walkVa, walkAsid, complete, keep, pageFlushed, incompleteFlushed, pageKey}
 
 -- a test that holds exactly if two numbers are equal
 test-eqb : (a b : ℕ) (t : Bool) → (a ≡ b → t ≡ true) → (t ≡ true → a ≡ b) → eqb a b ≡ t
@@ -68,11 +68,11 @@ flush-all (w ∷ l) = flush-all l
 
 module _ (va asid : ℕ) (h : asid < 2 ^ 6) (tlb : List Walk) where
   -- a page of an address space
-  pub flush-page : staying (goes (Page (pageKey va asid))) tlb ≡ flush asid va tlb
+  pub flush-page : staying (goes (Page (pageKey va asid))) tlb ≡ pageFlushed asid va tlb
   flush-page = keeps (goes (Page (pageKey va asid))) _ (λ w. ap not (page-split va asid h (w .first))) tlb
 
   -- that page and the incomplete walks
-  pub flush-incomplete : staying (goes (Incomplete (pageKey va asid))) tlb ≡ flushIncomplete (flush asid va tlb)
+  pub flush-incomplete : staying (goes (Incomplete (pageKey va asid))) tlb ≡ incompleteFlushed (pageFlushed asid va tlb)
   flush-incomplete =
       keeps (goes (Incomplete (pageKey va asid))) _
       (λ w. not-or (complete w) _ ∙ ap (λ (t : Bool). not t && complete w) (page-split va asid h (w .first))) tlb

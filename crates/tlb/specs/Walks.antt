@@ -12,8 +12,8 @@ use Rattle.records.specs.Records.{levelOf}
 use Rattle.tlb.specs.declared.Request.{Request}
 use Rattle.tlb.specs.declared.Entry.{Entry}
 use Rattle.tlb.specs.declared.Entry.the-variants.{Word, Missing}
-use Rattle.tlb.specs.declared.Verdict.{Verdict}
-use Rattle.tlb.specs.declared.Verdict.the-variants.{Faults, Passes, Undecided}
+use Rattle.tlb.specs.declared.Faulting.{Faulting}
+use Rattle.tlb.specs.declared.Faulting.the-variants.{Faults, Passes, Undecided}
 
 -- ---- definition 6: w.va, w.asid, w.level, w.r and w.ba
 
@@ -126,14 +126,14 @@ unfoldable pub hit : Request → Walk → Bool
 hit t w = eqb (walkVa w) (t .va / 2 ^ 12) && (eqb (walkAsid w) (t .asid) && suffices (t .r) (walkR w))
 
 -- definition 19: fault(m, trq, w); only where an incomplete walk is a hit does its entry matter, and then it may not be there
-unfoldable pub entryFault : ℕ → Entry → Verdict
+unfoldable pub entryFault : ℕ → Entry → Faulting
 entryFault r (Word e) = if wextFault e r then Faults else Passes
 entryFault r Missing = Undecided
 
-unfoldable pub faultBy : Request → Walk → Entry → Verdict
+unfoldable pub faultBy : Request → Walk → Entry → Faulting
 faultBy t w e = if not (complete w) && hit t w then entryFault (t .r) e else Passes
 
-abbrev pub fault : List ℕ → Request → Walk → Verdict
+abbrev pub fault : List ℕ → Request → Walk → Faulting
 fault m t w = faultBy t w (pte m w)
 
 -- ---- definition 20: the walks left by a flush of a page of an address space, and by a flush of incomplete walks
@@ -142,11 +142,11 @@ unfoldable pub keep : (Walk → Bool) → List Walk → List Walk
 keep p [] = []
 keep p (w ∷ l) = if p w then w ∷ keep p l else keep p l
 
-abbrev pub flush : ℕ → ℕ → List Walk → List Walk
-flush asid va tlb = keep (λ w. not (eqb (walkAsid w) asid && eqb (walkVa w) va)) tlb
+abbrev pub pageFlushed : ℕ → ℕ → List Walk → List Walk
+pageFlushed asid va tlb = keep (λ w. not (eqb (walkAsid w) asid && eqb (walkVa w) va)) tlb
 
-abbrev pub flushIncomplete : List Walk → List Walk
-flushIncomplete tlb = keep complete tlb
+abbrev pub incompleteFlushed : List Walk → List Walk
+incompleteFlushed tlb = keep complete tlb
 
 -- a page of an address space as one number, as a walk's first word has it above its low six bits
 abbrev pub pageKey : ℕ → ℕ → ℕ

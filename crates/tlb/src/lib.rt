@@ -34,7 +34,7 @@ pub enum Entry {
 }
 
 // Whether a request faults at a walk; undecided where the walk's entry is not in memory.
-pub enum Verdict {
+pub enum Faulting {
     Faults,
     Passes,
     Undecided,
@@ -185,28 +185,28 @@ pub fn hit(t: Request, w: Walk) -> bool
     (va(w) == t.va / 0x1000) & ((asid(w) == t.asid) & suffices(t.r, rights(w)))
 }
 
-fn entry_fault(r: u32, e: Entry) -> Verdict
+fn entry_fault(r: u32, e: Entry) -> Faulting
     ensures { λ v. ⌜ v ≡ x.entryFault r e ⌝ }
 {
     match e {
         Entry::Word(v) => {
             if wext_faults(v, r) {
-                return Verdict::Faults;
+                return Faulting::Faults;
             }
-            Verdict::Passes
+            Faulting::Passes
         }
-        Entry::Missing => Verdict::Undecided,
+        Entry::Missing => Faulting::Undecided,
     }
 }
 
 // Whether a request faults at a walk.
-pub fn fault(m: &[u8], t: Request, w: Walk) -> Verdict
+pub fn fault(m: &[u8], t: Request, w: Walk) -> Faulting
     ensures { λ r. ⌜ r ≡ x.fault (now (m .entry)) t w ⌝ }
 {
     if !complete(w) & hit(t, w) {
         return entry_fault(t.r, pte(m, w));
     }
-    Verdict::Passes
+    Faulting::Passes
 }
 
 // A page of an address space as one number, for a flush.

@@ -3,7 +3,7 @@ use borrow.Author.Needs.{needs}
 use mathlib.Core.Path.{_∙_}
 use native.Mathlib.Omega.{arith}
 use lib.ListN.{length-set}
-use Rattle.apic.specs.LocalApic.{isr, ended}
+use Rattle.apic.specs.LocalApic.{isr, eoiWritten}
 use Rattle.apic.proofs.Least.{lowest-vector}
 use Rattle.apic.proofs.local.end.Statement.{statement}
 use Rattle.apic.proofs.local.end.Tie as tie
@@ -28,7 +28,7 @@ same-length c =
     omega (arith, length-set (a .b .now) 75 (a .v))
 
 returns : tie.Need-returns
-unfolding ended
+unfolding eoiWritten
 returns c = c .before .before .mark2 .ensures ∙ rw (c .before .before .before .before .before .before .mark .ensures, c .before .before .before .before .before .before .before .before .lowest .ensures)
 
 pub end-spec : {M : Type 1} → statement M

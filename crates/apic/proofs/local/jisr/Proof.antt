@@ -2,7 +2,7 @@
 use borrow.Author.Needs.{needs}
 use mathlib.Core.Path.{_∙_}
 use native.Mathlib.Omega.{arith}
-use Rattle.apic.specs.LocalApic.{irr, jisr}
+use Rattle.apic.specs.LocalApic.{irr, onJisr}
 use Rattle.apic.proofs.Least.{lowest-vector}
 use Rattle.apic.proofs.local.jisr.Statement.{statement}
 use Rattle.apic.proofs.local.jisr.Tie as tie
@@ -20,7 +20,7 @@ same-length : tie.Need-same-length
 same-length c = search needs
 
 returns : tie.Need-returns
-unfolding jisr
+unfolding onJisr
 returns c = c .before .before .mark2 .ensures ∙ rw (c .before .before .before .before .before .before .mark .ensures, c .before .before .before .before .before .before .before .before .lowest .ensures)
 
 pub jisr-spec : {M : Type 1} → statement M

@@ -2,7 +2,7 @@
 use borrow.Author.Needs.{needs}
 use mathlib.Core.Path.{_∙_}
 use native.Mathlib.Omega.{arith}
-use Rattle.apic.specs.LocalApic.{isr, rfe}
+use Rattle.apic.specs.LocalApic.{isr, onRfe}
 use Rattle.apic.proofs.Least.{lowest-vector}
 use Rattle.apic.proofs.local.rfe.Statement.{statement}
 use Rattle.apic.proofs.local.rfe.Tie as tie
@@ -17,7 +17,7 @@ same-length : tie.Need-same-length
 same-length c = search needs
 
 returns : tie.Need-returns
-unfolding rfe
+unfolding onRfe
 returns c = c .before .before .mark .ensures ∙ rw (c .before .before .before .before .lowest .ensures)
 
 pub rfe-spec : {M : Type 1} → statement M

@@ -2,7 +2,7 @@
 use borrow.Author.Needs.{needs}
 use mathlib.Core.Path.{_∙_}
 use borrow.Author.Tests.{eq-eqb, ne-eqb}
-use Rattle.apic.specs.LocalApic.{written}
+use Rattle.apic.specs.LocalApic.{portWritten}
 use Rattle.apic.proofs.local.write.Statement.{statement}
 use Rattle.apic.proofs.local.write.Tie as tie
 
@@ -13,7 +13,7 @@ same-length : tie.Need-same-length
 same-length c = search needs
 
 returns : tie.Need-returns
-unfolding written
+unfolding portWritten
 returns c = c .before .before .end .ensures ∙ rw (eq-eqb _ _ (c .before .before .before .before .if1 .taken))
 
 add-at : tie.Need-add-at
@@ -29,7 +29,7 @@ same-length-2 : tie.Need-same-length-2
 same-length-2 c = search needs
 
 returns-2 : tie.Need-returns-2
-unfolding written
+unfolding portWritten
 returns-2 c = rw (ne-eqb _ _ (c .if1 .left))
 
 pub write-spec : {M : Type 1} → statement M

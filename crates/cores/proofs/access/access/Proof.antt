@@ -9,7 +9,7 @@ use Rattle.cores.specs.Guards.{settle}
 use Rattle.cores.specs.Plans.{refused}
 use native.Mathlib.Omega.{arith}
 use Rattle.cores.specs.Core.{viewOf, onData}
-use Rattle.tlb.specs.declared.Verdict.the-variants.{Faults, Passes, Undecided}
+use Rattle.tlb.specs.declared.Faulting.the-variants.{Faults, Passes, Undecided}
 use Rattle.cores.proofs.Accesses.{with-fault, with-fault-lt}
 use denote.Ref.{now}
 use Rattle.tlb.specs.Walks.{hit}

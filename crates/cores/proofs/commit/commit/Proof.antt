@@ -5,7 +5,7 @@ use mathlib.Core.Path.{sym, _∙_, ap, refl}
 use denote.Ref.{now}
 use Rattle.layout.specs.Blocks.{block, withBlock}
 use Rattle.layout.proofs.Blocks.{block-long, span}
-use Rattle.cores.specs.Commit.{tablesAfter}
+use Rattle.cores.specs.Commit.{tablesByPlan}
 use Prim.Native.Nat.{_+_, _*_}
 
 mul-a : tie.Need-mul-a
@@ -43,7 +43,7 @@ same-length-2 : tie.Need-same-length-2
 same-length-2 c = search needs
 
 returns : tie.Need-returns
-unfolding tablesAfter block withBlock
+unfolding tablesByPlan block withBlock
 returns c = (c .before .before .before .before .beyond-block .ensures .0 ∙ simp (span, c .before .before .before .before .before .before .before .before .before .on-block .ensures), c .before .before .before .before .beyond-block .ensures .1)
 
 pub commit-spec : {M : Type 1} → statement M

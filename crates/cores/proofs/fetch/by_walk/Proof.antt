@@ -8,7 +8,7 @@ use Rattle.cores.proofs.Held.{records-linked, held-base}
 use Rattle.cores.specs.Guards.{settle}
 use Rattle.cores.specs.Plans.{refused}
 use Rattle.cores.specs.Core.{onFetch}
-use Rattle.tlb.specs.declared.Verdict.the-variants.{Faults, Passes, Undecided}
+use Rattle.tlb.specs.declared.Faulting.the-variants.{Faults, Passes, Undecided}
 use denote.Ref.{now}
 use Rattle.tlb.specs.Walks.{hit}
 

@@ -6,7 +6,7 @@ use Prim.Native.Nat.{ℕ, _-_, _≤_}
 use native.Mathlib.Omega.{arith}
 use lib.ListN.{length}
 use lib.Dec.{eqb}
-use Rattle.apic.specs.Active.{reached}
+use Rattle.apic.specs.Active.{receivedBy}
 use Rattle.ioapic.specs.Blocks.{onBlock, onBlocks}
 use Rattle.ioapic.specs.Bus.{broadcast}
 use Rattle.ioapic.proofs.Loops.{span, one-more-block}
@@ -16,7 +16,7 @@ use Rattle.ioapic.proofs.bus.broadcast.Tie as tie
 
 abbrev Inv-loop : tie.InvT-loop
 Inv-loop t₀ n i m j₀ t j =
-    (j ≤ n) × ((length t ≡ length t₀) × (t ≡ onBlocks (λ (k : ℕ) (b : List ℕ). reached m (eqb k i) b) j t₀))
+    (j ≤ n) × ((length t ≡ length t₀) × (t ≡ onBlocks (λ (k : ℕ) (b : List ℕ). receivedBy m (eqb k i) b) j t₀))
 
 abbrev μ-loop : tie.MeasureT-loop
 μ-loop t₀ n i m j₀ t j = n - j
@@ -34,21 +34,21 @@ add-a c = omega arith
 add-e : tie.Need-add-e Inv-loop μ-loop
 add-e c = omega arith
 
-mul-reach : tie.Need-mul-reach Inv-loop μ-loop
-mul-reach c = omega arith
+mul-receive : tie.Need-mul-receive Inv-loop μ-loop
+mul-receive c = omega arith
 
-sub-reach : tie.Need-sub-reach Inv-loop μ-loop
-sub-reach c = omega arith
+sub-receive : tie.Need-sub-receive Inv-loop μ-loop
+sub-receive c = omega arith
 
-part-reach-start : tie.Need-part-reach-start Inv-loop μ-loop
-part-reach-start c = omega arith
+part-receive-start : tie.Need-part-receive-start Inv-loop μ-loop
+part-receive-start c = omega arith
 
-part-reach-end : tie.Need-part-reach-end Inv-loop μ-loop
-part-reach-end c = omega arith
+part-receive-end : tie.Need-part-receive-end Inv-loop μ-loop
+part-receive-end c = omega arith
 
-reach-requires : tie.Need-reach-requires Inv-loop μ-loop
+receive-requires : tie.Need-receive-requires Inv-loop μ-loop
 unfolding block withBlock
-reach-requires c κs =
+receive-requires c κs =
     let l = c .before .before .loop in
     simp span (block-long (l .t) (l .j) (omega arith), c .before .before .before .before .pre .2)
 
@@ -66,8 +66,8 @@ loop-again c =
     let h : Has (l .t) (l .j) = omega arith in (
       omega arith,
       (
-        simp span (with-long (l .t) (l .j) (c .before .before .reach .last .0) h (c .before .before .reach .kept .0 ∙ simp span (block-long (l .t) (l .j) h)) ∙ l .inv .1 .0),
-        simp (span, c .before .before .reach .ensures) (ap (λ (x : List ℕ). onBlock (reached (a .m) (eqb (l .j) (a .i))) (l .j) x) (l .inv .1 .1)) ∙ sym (one-more-block (λ (j : ℕ) (b : List ℕ). reached (a .m) (eqb j (a .i)) b) (l .j) (a .t .now)),
+        simp span (with-long (l .t) (l .j) (c .before .before .receive .last .0) h (c .before .before .receive .kept .0 ∙ simp span (block-long (l .t) (l .j) h)) ∙ l .inv .1 .0),
+        simp (span, c .before .before .receive .ensures) (ap (λ (x : List ℕ). onBlock (receivedBy (a .m) (eqb (l .j) (a .i))) (l .j) x) (l .inv .1 .1)) ∙ sym (one-more-block (λ (j : ℕ) (b : List ℕ). receivedBy (a .m) (eqb j (a .i)) b) (l .j) (a .t .now)),
       ),
     )
 
@@ -80,7 +80,7 @@ returns c =
     let l = c .before .loop in
     let a = c .before .before .before .args in
     let n : l .j ≡ a .n = omega arith in
-    l .inv .1 .1 ∙ ap (λ (k : ℕ). onBlocks (λ (j : ℕ) (b : List ℕ). reached (a .m) (eqb j (a .i)) b) k (a .t .now)) n
+    l .inv .1 .1 ∙ ap (λ (k : ℕ). onBlocks (λ (j : ℕ) (b : List ℕ). receivedBy (a .m) (eqb j (a .i)) b) k (a .t .now)) n
 
 pub broadcast-spec : {M : Type 1} → statement M
 broadcast-spec =
@@ -92,11 +92,11 @@ broadcast-spec =
     mul-a
     add-a
     add-e
-    mul-reach
-    sub-reach
-    part-reach-start
-    part-reach-end
-    reach-requires
+    mul-receive
+    sub-receive
+    part-receive-start
+    part-receive-end
+    receive-requires
     add-j
     loop-less
     loop-again

@@ -1,7 +1,7 @@
 -- `ioapic::bus::deliver` meets its contract: an interrupt for an ID does not ask who sends it.
 use borrow.Author.Needs.{needs}
 use mathlib.Core.Path.{_∙_}
-use Rattle.apic.specs.Active.{reached}
+use Rattle.apic.specs.Active.{receivedBy}
 use Rattle.ioapic.specs.Bus.{broadcast, deliver}
 use Rattle.ioapic.proofs.bus.deliver.Statement.{statement}
 use Rattle.ioapic.proofs.bus.deliver.Tie as tie
@@ -25,7 +25,7 @@ same-length : tie.Need-same-length
 same-length c = search needs
 
 returns : tie.Need-returns
-unfolding deliver broadcast reached
+unfolding deliver broadcast receivedBy
 returns c = c .before .before .broadcast .ensures ∙ rw (c .before .before .before .before .before .before .hand .ensures)
 
 pub deliver-spec : {M : Type 1} → statement M

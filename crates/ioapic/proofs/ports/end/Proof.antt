@@ -5,7 +5,7 @@ use mathlib.Core.List.{List}
 use Prim.Native.Nat.{ℕ, _-_, _≤_}
 use native.Mathlib.Omega.{arith}
 use lib.ListN.{length, length-set}
-use Rattle.ioapic.specs.IoApic.{entry, withEntry, onEntries, acknowledged, ended}
+use Rattle.ioapic.specs.IoApic.{entry, withEntry, onEntries, acknowledged, eoiReceived}
 use Rattle.ioapic.proofs.Loops.{one-more-entry}
 use Rattle.ioapic.proofs.ports.end.Statement.{statement}
 use Rattle.ioapic.proofs.ports.end.Tie as tie
@@ -54,7 +54,7 @@ same-length : tie.Need-same-length Inv-loop μ-loop
 same-length c = omega arith
 
 returns : tie.Need-returns Inv-loop μ-loop
-unfolding ended
+unfolding eoiReceived
 returns c =
     let l = c .before .loop in
     let n : l .i ≡ 24 = omega arith in

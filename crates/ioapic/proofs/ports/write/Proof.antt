@@ -2,7 +2,7 @@
 use borrow.Author.Needs.{needs}
 use mathlib.Core.Path.{_∙_}
 use borrow.Author.Tests.{eq-eqb, ne-eqb}
-use Rattle.ioapic.specs.IoApic.{written}
+use Rattle.ioapic.specs.IoApic.{ioWritten}
 use Rattle.ioapic.proofs.Loops.{selects}
 use Rattle.ioapic.proofs.ports.write.Statement.{statement}
 use Rattle.ioapic.proofs.ports.write.Tie as tie
@@ -14,7 +14,7 @@ same-length : tie.Need-same-length
 same-length c = search needs
 
 returns : tie.Need-returns
-unfolding written
+unfolding ioWritten
 returns c = c .before .before .select .ensures ∙ rw (eq-eqb _ _ (c .before .before .before .before .if1 .taken))
 
 window-requires : tie.Need-window-requires
@@ -24,7 +24,7 @@ same-length-2 : tie.Need-same-length-2
 same-length-2 c = search needs
 
 returns-2 : tie.Need-returns-2
-unfolding written
+unfolding ioWritten
 returns-2 c = c .before .before .window .ensures ∙ rw (ne-eqb _ _ (c .before .before .before .before .if1 .left))
 
 pub write-spec : {M : Type 1} → statement M
