@@ -17,7 +17,7 @@ use Rattle.decode.specs.Mnemonics.{movg2s, mulacc, mthi, mtlo, mul}
 use Rattle.isa.specs.declared.registers.Registers.{Registers}
 use Rattle.isa.specs.Core.{gprAt, sprAt, putAt, ea, effect, deltaInstr, gprw, cad, gprdin, hiAfterMul, loAfterMul}
 use Rattle.isa.specs.Interrupts.{user, eventsAs, deltaJisr, deltaRfe, continues, il}
-use Rattle.isa.specs.Steps.{eaBy, eventsBy}
+use Rattle.isa.specs.inner.Outcomes.{eaBy, eventsBy}
 
 -- ---- general register 0
 

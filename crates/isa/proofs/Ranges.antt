@@ -18,7 +18,7 @@ use Rattle.decode.proofs.Numbers.{every}
 use Rattle.decode.proofs.Ranges.{agree, ill-number, sysc-number, alu-range}
 use Rattle.isa.specs.Core.{d, mal}
 use Rattle.isa.specs.Interrupts.{privileged, mca}
-use Rattle.isa.specs.Steps.{eaBy, ovfBy, eventsBy}
+use Rattle.isa.specs.inner.Outcomes.{eaBy, ovfBy, eventsBy}
 
 pub privileged-range : (i : Instruction) → ((ltb 50 (number i) && ltb (number i) 53) || (ltb 57 (number i) && ltb (number i) 61)) ≡ privileged i
 unfolding privileged

@@ -15,7 +15,7 @@ ghost use Prim.Native.Nat.{_<_, _/_, _*_, _%_, _+_, _^_};
 ghost use Rattle.decode.specs.Fields as f;
 ghost use Rattle.units.specs.Shift.{sures, sf};
 ghost use Rattle.isa.specs.Core as x;
-ghost use Rattle.isa.specs.Steps as s;
+ghost use Rattle.isa.specs.inner.Outcomes as s;
 
 // General registers rs and rt, special register rd, and the pc, HI and LO.
 pub struct Operands {

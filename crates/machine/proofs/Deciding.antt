@@ -32,7 +32,7 @@ use Rattle.machine.specs.declared.action.Action.{Action}
 use Rattle.machine.specs.declared.action.Action.the-variants.{Refused, Planned, SendIpi, SendEoi, InitCore, StartCore, Sample, Deliver, SetLine}
 use Rattle.machine.specs.Actions.{doable}
 use Rattle.machine.specs.Decide.{ifAllowed, toSend, toEnd, byStep, decided}
-use Rattle.machine.specs.Split.{formed, isPlan, isPlanned}
+use Rattle.machine.specs.inner.Split.{formed, isPlan, isPlanned}
 use Rattle.machine.proofs.Forms.{step-formed}
 use Rattle.machine.proofs.Fitting.{quarters}
 use Rattle.apic.specs.Vectors.{isVector}

@@ -2,4 +2,4 @@ pub mod Actions
 pub mod Decide
 pub mod Step
 pub mod Run
-pub mod Split
+pub mod inner

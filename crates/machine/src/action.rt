@@ -15,7 +15,7 @@ ghost use Rattle.tables.specs.Views.{coresOf};
 ghost use Rattle.apic.specs.Active as a;
 ghost use Rattle.ioapic.specs.Blocks.{onBlock};
 ghost use Rattle.machine.specs.Actions as x;
-ghost use Rattle.machine.specs.Split.{isPlan};
+ghost use Rattle.machine.specs.inner.Split.{isPlan};
 
 pub enum Action {
     Refused(u32),

@@ -26,7 +26,7 @@ ghost use Rattle.cores.specs.Core as c;
 ghost use Rattle.cores.specs.Walks.{planned};
 ghost use Rattle.cores.specs.Buffer as z;
 ghost use Rattle.machine.specs.Decide as x;
-ghost use Rattle.machine.specs.Split as y;
+ghost use Rattle.machine.specs.inner.Split as y;
 
 fn core(t: &[u32], m: &[u8], k: u32, fetch: Walk, second: Walk) -> Plan
     requires { ⌜ 32 + 256 * k + 256 ≤ length (now t) ⌝ }

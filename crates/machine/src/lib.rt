@@ -13,7 +13,7 @@ ghost use lib.ListN.{length};
 ghost use Rattle.tables.specs.Sound.{sound};
 ghost use Rattle.tables.specs.Views.{coresOf};
 ghost use Rattle.machine.specs.Decide.{byStep};
-ghost use Rattle.machine.specs.Split as y;
+ghost use Rattle.machine.specs.inner.Split as y;
 ghost use Rattle.machine.specs.Step as x;
 
 pub(crate) fn is_accepted(a: Answer) -> bool

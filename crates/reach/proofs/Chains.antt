@@ -17,7 +17,7 @@ use Rattle.layout.proofs.Blocks.{span}
 use Rattle.tlb.specs.Walks.{baseAddress}
 use Rattle.tlb.specs.Steps.{originOf}
 use Rattle.reach.specs.Lists.{range}
-use Rattle.reach.specs.Marks.{Name, name, Marked, walkName, recordName, coreNames, memberNames, rootNames}
+use Rattle.reach.specs.inner.Marks.{Name, name, Marked, walkName, recordName, coreNames, memberNames, rootNames}
 use Rattle.reach.proofs.Marking.{marked-none, marked-then, namesTo}
 
 -- ---- one walk

@@ -17,7 +17,7 @@ use Rattle.tables.specs.Sound.{sound}
 use Rattle.tables.proofs.Lift.{header}
 use Rattle.reach.specs.Lists.{range, has, select}
 use Rattle.reach.specs.Reach.{members, anyRights, grantsWrite, named, firstPages, secondPages, dataPages, writablePages, reach, inMemory, mapByte, mapFor}
-use Rattle.reach.specs.Marks.{Name, name, marks, strays, Marked, isMarked, isWritten, byteOf, walkName, recordName, coreNames, memberNames, rootNames, entryNames, passNames}
+use Rattle.reach.specs.inner.Marks.{Name, name, marks, strays, Marked, isMarked, isWritten, byteOf, walkName, recordName, coreNames, memberNames, rootNames, entryNames, passNames}
 use Rattle.reach.proofs.Lists.{decided, and-left, Each, each-append, each-flatMap, if-both, has-append, all-append, all-same, or-assoc, or-turn, or-none, flatMap-below, map-same, range-in}
 use Rattle.reach.proofs.Marking.{marks-long}
 use Rattle.reach.proofs.Sets.{Proper, ofKind, written, pagesWith, with-none, with-cons, with-append, marks-marked, marks-written}

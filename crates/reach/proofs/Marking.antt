@@ -14,7 +14,7 @@ use Rattle.word.specs.Bytes.{bytesAt}
 use Rattle.tlb.specs.declared.Entry.the-variants.{Word}
 use Rattle.tlb.specs.Walks.{entryAt, pteaAt, pteP}
 use Rattle.reach.specs.Lists.{range}
-use Rattle.reach.specs.Marks.{Name, name, place, mark, marks, strays, Marked, Beside, entryName, nameFrom, fourNames, entryNames}
+use Rattle.reach.specs.inner.Marks.{Name, name, place, mark, marks, strays, Marked, Beside, entryName, nameFrom, fourNames, entryNames}
 use Rattle.reach.proofs.Lists.{or-assoc, or-none-left, or-none-right, flatMap-append, flatMap-one}
 
 -- ---- the lists

@@ -18,7 +18,7 @@ use Rattle.tlb.specs.Walks.{walkLevel, walkR, complete, baseAddress, entryAt, p
 use Rattle.tlb.specs.Steps.{originOf}
 use Rattle.reach.specs.Lists.{range, has, select}
 use Rattle.reach.specs.Reach.{members, anyRights, grantsWrite, basesOf, storePages, namedBy, named, over, firstPages}
-use Rattle.reach.specs.Marks.{Name, name, isMarked, entryName, entryNames, markedNames, passNames, walkName, recordName, coreNames, memberNames, rootNames}
+use Rattle.reach.specs.inner.Marks.{Name, name, isMarked, entryName, entryNames, markedNames, passNames, walkName, recordName, coreNames, memberNames, rootNames}
 use Rattle.reach.proofs.Lists.{and-assoc, and-left, and-right, and-both, both-ways, flatMap-ext, flatMap-none, flatMap-select, flatMap-map, flatMap-each, select-same, range-in}
 use Rattle.reach.proofs.Sets.{ofKind, written, pagesWith, with-none, with-cons, with-append, with-flatMap}
 

@@ -14,7 +14,7 @@ use Rattle.tlb.specs.declared.Entry.{Entry}
 use Rattle.tlb.specs.declared.Entry.the-variants.{Word, Missing}
 use Rattle.tlb.specs.Walks.{entryAt, pteaAt, pteP, pteBa}
 use Rattle.reach.specs.Lists.{range, has}
-use Rattle.reach.specs.Marks.{Name, name, marks, Marked, isMarked, isWritten, byteOf, entryName, entryNames, markedNames, passNames}
+use Rattle.reach.specs.inner.Marks.{Name, name, marks, Marked, isMarked, isWritten, byteOf, entryName, entryNames, markedNames, passNames}
 use Rattle.reach.proofs.Lists.{or-none, Each, if-both, flatMap-none, each-flatMap}
 use Rattle.reach.proofs.Marking.{marked-none, namesTo, loop-next}
 use Rattle.reach.proofs.Sets.{Proper, ofKind, pagesWith, with-none, with-cons, with-flatMap, marks-marked}

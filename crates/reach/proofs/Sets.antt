@@ -13,7 +13,7 @@ use lib.Seq.{getD-set-same, getD-set-other}
 use borrow.Author.Tests.{eq-eqb, ne-eqb, eqb-true, ltb-true, ltb-false}
 use Rattle.word.specs.Word.{if_then_else_}
 use Rattle.reach.specs.Lists.{has, select}
-use Rattle.reach.specs.Marks.{Name, place, mark, marks, isMarked, isWritten}
+use Rattle.reach.specs.inner.Marks.{Name, place, mark, marks, isMarked, isWritten}
 use Rattle.reach.proofs.Lists.{tested, decided, and-left, and-right, and-both, or-cases, or-left, or-right, or-assoc, or-turn, or-none, and-none, both-ways, Each}
 use Rattle.reach.proofs.Marking.{mark-long}
 

@@ -1,4 +1,4 @@
-// Three sets of pages as marks in one array of bytes, 8,192 a set: first-level tables, second-level tables, data (specs/Marks.antt).
+// Three sets of pages as marks in one array of bytes, 8,192 a set: first-level tables, second-level tables, data (specs/inner/Marks.antt).
 // A mark is a plain store of 1, so that a table page is gone through once, entry by entry.
 ghost use mathlib.Core.Path.{_≡_};
 ghost use mathlib.Core.List.{[], _∷_};
@@ -10,7 +10,7 @@ ghost use Rattle.word.specs.Bytes.{bytesAt};
 ghost use Rattle.tlb.specs.declared.Entry.{Entry};
 ghost use Rattle.tlb.specs.Walks.{pteP};
 ghost use Rattle.reach.specs.Lists.{range};
-ghost use Rattle.reach.specs.Marks as x;
+ghost use Rattle.reach.specs.inner.Marks as x;
 
 // Marks page p in a set, with the write right where w is 1, unless it is beyond memory; whether it is, or one was before.
 fn mark_beside(s: &mut [u8], pages: u32, kind: u32, p: u32, w: u32, beyond: bool) -> bool

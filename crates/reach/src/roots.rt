@@ -1,4 +1,4 @@
-// What the blocks of a group of cores name: origins, walks and pending stores (specs/Marks.antt).
+// What the blocks of a group of cores name: origins, walks and pending stores (specs/inner/Marks.antt).
 use super::marks::mark;
 use layout::BLOCK_WORDS;
 use layout::HEADER_WORDS;
@@ -16,7 +16,7 @@ ghost use lib.ListN.{length};
 ghost use Rattle.layout.specs.Layout.{blockAt, blockWords};
 ghost use Rattle.layout.specs.Blocks.{block};
 ghost use Rattle.records.specs.Records.{all, small, chainAt, linked};
-ghost use Rattle.reach.specs.Marks as x;
+ghost use Rattle.reach.specs.inner.Marks as x;
 
 // Marks the base of a walk, by its words, in the set of its level.
 fn mark_walk(s: &mut [u8], pages: u32, first: u32, second: u32) -> bool

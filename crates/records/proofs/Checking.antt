@@ -14,8 +14,8 @@ use Rattle.layout.specs.Layout.{recordAt}
 use Rattle.word.specs.Word.{flag}
 use Rattle.records.specs.Records.{chain, chainAt, count, each, all, small}
 use Rattle.records.specs.declared.check.Rule.{Rule}
-use Rattle.records.specs.Rules.{obeys, fitsRule, chainFits}
-use Rattle.records.specs.Tallied.{Tallied}
+use Rattle.records.specs.inner.Rules.{obeys, fitsRule, chainFits}
+use Rattle.records.specs.inner.Tallied.{Tallied}
 use Rattle.records.proofs.Counts.{either, and-left, and-both}
 use Rattle.records.proofs.Three.{count-cons}
 

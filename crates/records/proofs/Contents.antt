@@ -12,7 +12,7 @@ use Rattle.layout.specs.Layout.{storeHead, walkHead, freeHead}
 use Rattle.records.specs.Records.{all, chainAt, small, lastBlank, storeIn, walkIn, stores, walks, linked, onceEach, noOther, fewStores, fewWalks, freeBlank, walksBlank, firstBlank, differing}
 use Rattle.records.specs.Contents.{storeSound, walkSound, soundRecords}
 use Rattle.records.specs.declared.check.Rule.the-variants.{Blank, Store, Walk}
-use Rattle.records.specs.Rules.{obeys, fitsRule, chainFits, ruled}
+use Rattle.records.specs.inner.Rules.{obeys, fitsRule, chainFits, ruled}
 use Rattle.records.proofs.Counts.{and-left, and-right, and-both, all-append, all-both, all-left, all-right}
 use Rattle.records.proofs.Good.{parts, all-of}
 use Rattle.records.proofs.Whole.{fails, ruled-of, ruled-all}

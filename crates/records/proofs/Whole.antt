@@ -12,8 +12,8 @@ use Rattle.word.specs.Word.{flag}
 use Rattle.records.specs.Records.{chain, chainAt, count, each, numbers, onceEach}
 use Rattle.records.specs.declared.check.Rule.{Rule}
 use Rattle.records.specs.declared.check.Rule.the-variants.{Blank, Store, Walk}
-use Rattle.records.specs.Rules.{chainFits, ruled}
-use Rattle.records.specs.Tallied.{Tallied}
+use Rattle.records.specs.inner.Rules.{chainFits, ruled}
+use Rattle.records.specs.inner.Tallied.{Tallied}
 use Rattle.records.proofs.Counts.{either, and-left, and-right, and-both}
 use Rattle.records.proofs.Good.{three-append}
 

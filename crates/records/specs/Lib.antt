@@ -1,4 +1,3 @@
 pub mod Records
 pub mod Contents
-pub mod Rules
-pub mod Tallied
+pub mod inner

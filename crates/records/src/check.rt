@@ -18,8 +18,8 @@ ghost use lib.ListN.{length, getD};
 ghost use lib.Dec.{eqb};
 ghost use Rattle.records.specs.Records as x;
 ghost use Rattle.records.specs.Contents as y;
-ghost use Rattle.records.specs.Rules as z;
-ghost use Rattle.records.specs.Tallied.{Tallied};
+ghost use Rattle.records.specs.inner.Rules as z;
+ghost use Rattle.records.specs.inner.Tallied.{Tallied};
 
 // Counts the records of a chain. False if there are more than `most`, or one is 32 or more or breaks the rule.
 fn tally(b: &[u32], head: usize, rule: Rule, most: usize, seen: &mut [u8; 32]) -> bool

@@ -14,7 +14,7 @@ use Rattle.steps.specs.declared.Step.the-variants as kind
 use Rattle.steps.specs.Form.{stepOf}
 use Rattle.machine.specs.Decide.{byStep}
 use Rattle.machine.specs.Step.{step}
-use Rattle.machine.specs.Split.{formed}
+use Rattle.machine.specs.inner.Split.{formed}
 use Rattle.machine.proofs.Forms.{step-formed}
 use Rattle.report.specs.Demands.{outcome, Ground, Demand2, limited, Unhindered}
 use Rattle.report.specs.Delta as report

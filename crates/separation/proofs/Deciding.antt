@@ -26,7 +26,7 @@ use Rattle.reach.specs.Reach.{Pages, isGroup, members, tablePages, reached, rea
 use Rattle.reach.proofs.Lists.{tested, decided, clash, and-left, and-right, and-both, or-cases, In, in-left, in-right, in-append, in-range, range-in, all-in, in-all, all-append, both-ways, has-append, select-same, select-append}
 use Rattle.separation.specs.Apart.{running, rest, runsAsUser, disjoint, closed, pagesApart, apart, apartOn}
 use Rattle.separation.specs.declared.Verdict.the-variants.{Yes, No, Refused}
-use Rattle.separation.specs.Sides.{passes, both, pageApart}
+use Rattle.separation.specs.inner.Sides.{passes, both, pageApart}
 use Rattle.separation.proofs.Mapped.{marked-is, byte-in, byte-table, byte-writable, reached-low}
 
 -- ---- tests of all

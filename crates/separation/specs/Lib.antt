@@ -1,3 +1,3 @@
 pub mod Apart
 pub mod Separation
-pub mod Sides
+pub mod inner

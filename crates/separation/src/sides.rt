@@ -1,4 +1,4 @@
-// The two sides of a group: their cores, and what their maps say of a page (specs/Sides.antt).
+// The two sides of a group: their cores, and what their maps say of a page (specs/inner/Sides.antt).
 use layout::BLOCK_WORDS;
 use layout::CORES;
 use layout::HEADER_WORDS;
@@ -12,7 +12,7 @@ ghost use Rattle.tables.specs.Views.{coresOf};
 ghost use Rattle.reach.specs.Lists.{range};
 ghost use Rattle.reach.specs.Reach.{members};
 ghost use Rattle.separation.specs.Apart as x;
-ghost use Rattle.separation.specs.Sides as y;
+ghost use Rattle.separation.specs.inner.Sides as y;
 
 // Whether core k is of the group.
 fn is_member(group: u32, k: u32) -> bool

@@ -12,7 +12,7 @@ use Rattle.word.proofs.Laws.{side}
 use Rattle.records.specs.declared.Store.{Store}
 use Rattle.records.proofs.Counts.{either}
 use Rattle.store_buffer.specs.Buffer.{sbehit}
-use Rattle.store_buffer.specs.Pass.{Cover, whole, part, outside, cover}
+use Rattle.store_buffer.specs.inner.Pass.{Cover, whole, part, outside, cover}
 
 -- ---- distances modulo 2 ^ 32
 

@@ -21,7 +21,7 @@ use Rattle.store_buffer.specs.declared.Hit.the-variants.{At, Miss}
 use Rattle.store_buffer.specs.declared.Source.{Source}
 use Rattle.store_buffer.specs.declared.Source.the-variants.{Nothing, One, Mixed}
 use Rattle.store_buffer.specs.Buffer.{sbehit, newestFrom, maxsbhit, sameHit, some, sbhazard}
-use Rattle.store_buffer.specs.Pass.{cover, onCover, sourceOf}
+use Rattle.store_buffer.specs.inner.Pass.{cover, onCover, sourceOf}
 use Rattle.store_buffer.proofs.Cover.{cover-cases}
 
 -- ---- hits

@@ -25,7 +25,7 @@ use Rattle.store_buffer.specs.declared.Source.the-variants.{Nothing, One
 use Rattle.store_buffer.specs.declared.Loaded.the-variants.{Value, Hazard}
 use Rattle.store_buffer.specs.Buffer.{sbehit, sbhit, sbv, maxsbhit, some, sbhazard}
 use Rattle.store_buffer.specs.System.{Ports, msOf, ms, reads, aligned, sized, onRead, loaded}
-use Rattle.store_buffer.specs.Pass.{sourceOf, sourceBy}
+use Rattle.store_buffer.specs.inner.Pass.{sourceOf, sourceBy}
 use Rattle.store_buffer.proofs.Access.{InWord, aligned-word, reads-same, reads-part}
 use Rattle.store_buffer.proofs.Hits.{Newest, newest-law, none-hits, one-hits, no-hazard}
 

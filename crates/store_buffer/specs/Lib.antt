@@ -1,5 +1,5 @@
 pub mod Buffer
 pub mod System
 pub mod Leaving
-pub mod Pass
 pub mod Figures
+pub mod inner

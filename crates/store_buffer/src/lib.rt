@@ -19,7 +19,7 @@ ghost use Rattle.records.specs.Contents.{soundRecords};
 ghost use Rattle.store_buffer.specs.Buffer as x;
 ghost use Rattle.store_buffer.specs.System as y;
 ghost use Rattle.store_buffer.specs.Leaving as z;
-ghost use Rattle.store_buffer.specs.Pass as p;
+ghost use Rattle.store_buffer.specs.inner.Pass as p;
 
 // The newest pending store that writes a byte, by its place from the oldest.
 pub enum Hit {

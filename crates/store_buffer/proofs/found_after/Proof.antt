@@ -2,7 +2,7 @@
 -- Assumes nothing.
 use borrow.Author.Needs.{needs}
 use borrow.Author.Tests.{lt-ltb, le-ltb, le-leb, lt-leb, eq-eqb, ne-eqb}
-use Rattle.store_buffer.specs.Pass.{cover}
+use Rattle.store_buffer.specs.inner.Pass.{cover}
 use Rattle.store_buffer.proofs.found_after.Statement.{statement}
 use Rattle.store_buffer.proofs.found_after.Tie as tie
 

@@ -7,7 +7,7 @@ use borrow.Author.Tests.{eq-eqb, ne-eqb}
 use Rattle.word.specs.Word.{flag}
 use Rattle.word.proofs.Tests.{and-false}
 use Rattle.isa.specs.Core.{mal}
-use Rattle.isa.specs.Steps.{ovfBy}
+use Rattle.isa.specs.inner.Outcomes.{ovfBy}
 use native.Mathlib.Nat.{add-zero}
 use native.Mathlib.Omega.{arith}
 use Rattle.isa.proofs.Ranges.{access-causes, other-causes}

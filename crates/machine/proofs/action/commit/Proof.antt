@@ -11,7 +11,7 @@ use Rattle.tables.specs.Views.{coresOf}
 use Rattle.tables.proofs.Lift.{header}
 use Rattle.machine.proofs.Fitting.{header-words, has, ipi-asks, eoi-asks, init-asks, start-asks, sample-asks, deliver-asks, line-asks}
 use Rattle.machine.specs.Actions.{tablesAfter, memoryAfter}
-use Rattle.machine.specs.Split.{isPlan}
+use Rattle.machine.specs.inner.Split.{isPlan}
 
 slice-read-n : tie.Need-slice-read-n
 slice-read-n c = let h = header-words (now (c .before .before .before .args .t)) (length (now (c .before .before .before .args .m))) (c .before .before .before .pre .0) in omega (arith, h)

@@ -8,7 +8,7 @@ use borrow.Author.Tests.{ltb-true}
 use Rattle.word.proofs.Tests.{true-false}
 use Rattle.tables.specs.Views.{coresOf}
 use Rattle.machine.specs.Decide.{byStep}
-use Rattle.machine.specs.Split.{isPlanned}
+use Rattle.machine.specs.inner.Split.{isPlanned}
 use Rattle.machine.proofs.Fitting.{header-words, has}
 use Rattle.machine.proofs.Forms.{found}
 

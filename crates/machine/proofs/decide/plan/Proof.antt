@@ -11,7 +11,7 @@ use Rattle.word.proofs.Tests.{true-false}
 use Rattle.records.proofs.Counts.{and-left, and-right}
 use Rattle.tables.specs.Views.{coresOf}
 use Rattle.machine.specs.Decide.{byStep}
-use Rattle.machine.specs.Split.{isPlanned}
+use Rattle.machine.specs.inner.Split.{isPlanned}
 use Rattle.machine.proofs.Fitting.{has, records-sound, chains, quarters}
 use Rattle.machine.proofs.Forms.{found}
 

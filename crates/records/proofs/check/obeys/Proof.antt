@@ -8,7 +8,7 @@ use mathlib.Core.List.{List}
 use denote.Ref.{now}
 use Rattle.records.specs.declared.check.Rule.{Rule}
 use Rattle.records.specs.Records.{lastBlank}
-use Rattle.records.specs.Rules.{obeys}
+use Rattle.records.specs.inner.Rules.{obeys}
 use Rattle.records.proofs.check.obeys.Statement.{statement}
 use Rattle.records.proofs.check.obeys.Tie as tie
 

@@ -8,7 +8,7 @@ use denote.Ref.{now}
 use Rattle.records.specs.Records.{all}
 use Rattle.tables.specs.Views.{coresOf}
 use Rattle.reach.specs.Lists.{range}
-use Rattle.separation.specs.Sides.{passes}
+use Rattle.separation.specs.inner.Sides.{passes}
 use Rattle.separation.proofs.Deciding.{all-none, all-next}
 use Rattle.separation.proofs.sides.all_in_user_mode.Statement.{statement}
 use Rattle.separation.proofs.sides.all_in_user_mode.Tie as tie

@@ -4,7 +4,7 @@ use mathlib.Core.Path.{ap₂}
 use mathlib.Core.Bool.{Bool, _&&_, _||_, not}
 use lib.Dec.{eqb}
 use Rattle.word.specs.Word.{isSet}
-use Rattle.separation.specs.Sides.{pageApart}
+use Rattle.separation.specs.inner.Sides.{pageApart}
 use borrow.Author.Needs.{needs}
 use Rattle.separation.proofs.sides.page_apart.Statement.{statement}
 use Rattle.separation.proofs.sides.page_apart.Tie as tie

@@ -8,7 +8,7 @@ use lib.ListN.{getD}
 use denote.Ref.{now}
 use Rattle.records.specs.Records.{all}
 use Rattle.reach.specs.Lists.{range}
-use Rattle.separation.specs.Sides.{pageApart}
+use Rattle.separation.specs.inner.Sides.{pageApart}
 use Rattle.separation.proofs.Deciding.{all-none, all-next}
 use Rattle.separation.proofs.sides.pages_apart.Statement.{statement}
 use Rattle.separation.proofs.sides.pages_apart.Tie as tie

@@ -1,7 +1,7 @@
 use borrow.Author.Needs.{needs}
 use Rattle.isa.proofs.outcomes.Operands.multiply.Statement.{statement}
 use Rattle.isa.proofs.outcomes.Operands.multiply.Tie as tie
-use Rattle.isa.specs.Steps.{multiplyBy}
+use Rattle.isa.specs.inner.Outcomes.{multiplyBy}
 
 product-requires : tie.Need-product-requires
 product-requires c κs = search needs

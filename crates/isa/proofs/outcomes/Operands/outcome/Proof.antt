@@ -1,7 +1,7 @@
 use borrow.Author.Needs.{needs}
 use Rattle.isa.proofs.outcomes.Operands.outcome.Statement.{statement}
 use Rattle.isa.proofs.outcomes.Operands.outcome.Tie as tie
-use Rattle.isa.specs.Steps.{outcomeBy}
+use Rattle.isa.specs.inner.Outcomes.{outcomeBy}
 
 enum-known-i : tie.Need-enum-known-i
 enum-known-i c = search needs

@@ -1,7 +1,7 @@
 use borrow.Author.Needs.{needs}
 use Rattle.isa.proofs.outcomes.Operands.system.Statement.{statement}
 use Rattle.isa.proofs.outcomes.Operands.system.Tie as tie
-use Rattle.isa.specs.Steps.{systemBy}
+use Rattle.isa.specs.inner.Outcomes.{systemBy}
 use Rattle.isa.specs.Core.{lv, d}
 use Rattle.word.proofs.Laws.{sxt-whole}
 

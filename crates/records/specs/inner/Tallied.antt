@@ -8,7 +8,7 @@ use mathlib.Core.List.{List}
 use lib.ListN.{length, getD}
 use Rattle.records.specs.declared.check.Rule.{Rule}
 use Rattle.records.specs.Records.{chainAt, count}
-use Rattle.records.specs.Rules.{chainFits}
+use Rattle.records.specs.inner.Rules.{chainFits}
 
 -- s counts before the chain with head h, t after it
 pub record Tallied (b : List ℕ) (h : ℕ) (rule : Rule) (most : ℕ) (s t : List ℕ) (r : Bool) : Type 0 where
