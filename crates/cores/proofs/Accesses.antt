@@ -1,29 +1,22 @@
 -- What an access that is not suppressed has: its width and its alignment.
 -- Assumes nothing.
-use mathlib.Core.Path.{_≡_, refl, sym, _∙_, ap, subst}
+use mathlib.Core.Path.{_≡_, refl, sym, _∙_, ap}
 use mathlib.Core.Bool.{Bool, true, false, not, _&&_, _||_}
-use mathlib.Core.Logic.{_⊎_, inl, inr}
-use mathlib.Core.List.{List, [], _∷_}
-use Prim.Native.Nat.{ℕ, zero, suc, _+_, _*_, _/_, _%_, _^_, _<_, _≤_}
-use lib.Dec.{T, eqb, ltb}
+use Prim.Native.Nat.{ℕ, zero, suc, _+_, _*_, _%_, _^_, _<_}
+use lib.Dec.{T, eqb}
 use native.Mathlib.Omega.{arith}
-use borrow.Author.Tests.{eq-eqb, ne-eqb, eqb-true, ltb-true, lt-ltb}
-use Rattle.word.specs.Word.{if_then_else_, isSet, flag}
-use Rattle.word.proofs.Tests.{same, same-eq, truth, true-false, or-false, and-left, and-right}
+use borrow.Author.Tests.{eq-eqb, ne-eqb, eqb-true}
+use Rattle.word.specs.Word.{isSet, flag}
+use Rattle.word.proofs.Tests.{truth, true-false, or-false, and-left, and-right}
 use Rattle.decode.specs.declared.Instruction.{Instruction}
-use Rattle.decode.specs.declared.Instruction.the-variants.{Load, Store, System}
-use Rattle.decode.specs.declared.Load.the-variants.{Lh, Lw, Lhu}
-use Rattle.decode.specs.declared.StoreWidth.the-variants.{Sh, Sw}
-use Rattle.decode.specs.declared.System.the-variants.{Cas}
-use Rattle.decode.specs.Table.{table}
-use Rattle.decode.specs.Mnemonics.{oneOf, load, store, cas}
+use Rattle.decode.specs.Mnemonics.{load, store, cas}
+use Rattle.isa.proofs.Ranges.{mal-width}
 use Rattle.decode.proofs.Ranges.{agree}
 use Rattle.isa.specs.declared.registers.Registers.{Registers}
 use Rattle.isa.specs.declared.interrupts.Events.{Events}
 use Rattle.layout.specs.Layout.{sr}
 use Rattle.isa.specs.Core.{d, mal, ea, sprAt}
-use Rattle.isa.specs.Interrupts.{mca, jisr, il, lowestBit, continues, causesOf, eventsAs}
-use Rattle.records.specs.declared.Walk.{Walk}
+use Rattle.isa.specs.Interrupts.{mca, lowestBit, causesOf, eventsAs}
 use Rattle.store_buffer.specs.System.{sized, aligned}
 use Rattle.isa.proofs.Words.{causes-lt}
 use Rattle.cores.specs.Core.{View, isAccess, isEvent, causes, suppressed}
@@ -98,19 +91,6 @@ third true s c a p q = absurd (true-false p)
 pub cas-width : (i : Instruction) → isAccess i ≡ true → load i ≡ false → store i ≡ false → d i ≡ 4
 cas-width i a l s = eqb-true (d i) 4 (sym (cas-or i) ∙ ap (λ c. c || eqb (d i) 4) (third (load i) (store i) (cas i) a l s))
 
--- definition 41 by the width
-mal-rows : (x y : Bool) (i : Instruction) →
-    ((oneOf i (Load Lw ∷ Store Sw ∷ System Cas ∷ []) && x) || (oneOf i (Load Lhu ∷ Load Lh ∷ Store Sh ∷ []) && y)) ≡ ((eqb (d i) 4 && x) || (eqb (d i) 2 && y))
-unfolding d
-mal-rows true true = agree (λ i. (oneOf i (Load Lw ∷ Store Sw ∷ System Cas ∷ []) && true) || (oneOf i (Load Lhu ∷ Load Lh ∷ Store Sh ∷ []) && true)) (λ i. (eqb (d i) 4 && true) || (eqb (d i) 2 && true)) tt
-mal-rows true false = agree (λ i. (oneOf i (Load Lw ∷ Store Sw ∷ System Cas ∷ []) && true) || (oneOf i (Load Lhu ∷ Load Lh ∷ Store Sh ∷ []) && false)) (λ i. (eqb (d i) 4 && true) || (eqb (d i) 2 && false)) tt
-mal-rows false true = agree (λ i. (oneOf i (Load Lw ∷ Store Sw ∷ System Cas ∷ []) && false) || (oneOf i (Load Lhu ∷ Load Lh ∷ Store Sh ∷ []) && true)) (λ i. (eqb (d i) 4 && false) || (eqb (d i) 2 && true)) tt
-mal-rows false false = agree (λ i. (oneOf i (Load Lw ∷ Store Sw ∷ System Cas ∷ []) && false) || (oneOf i (Load Lhu ∷ Load Lh ∷ Store Sh ∷ []) && false)) (λ i. (eqb (d i) 4 && false) || (eqb (d i) 2 && false)) tt
-
-mal-width : (i : Instruction) (x : ℕ) → mal i x ≡ ((eqb (d i) 4 && not (eqb (x % 2 ^ 2) 0)) || (eqb (d i) 2 && not (eqb (x % 2) 0)))
-unfolding mal
-mal-width i x = mal-rows (not (eqb (x % 2 ^ 2) 0)) (not (eqb (x % 2) 0)) i
-
 pub not-not : (b : Bool) → not b ≡ false → b ≡ true
 not-not true e = refl
 not-not false e = absurd (true-false e)
@@ -136,7 +116,7 @@ aligned-by (suc (suc (suc (suc (suc w))))) a x s q e = absurd (true-false (sym s
 pub access-aligned : (i : Instruction) (c : Registers) (w a : ℕ) (io pfls : Bool) → isAccess i ≡ true →
     suppressed (causesOf c (eventsAs i c w io pfls)) ≡ false → a % 4 ≡ ea i c w % 4 → aligned a (d i) ≡ true
 access-aligned i c w a io pfls p s q =
-    aligned-by (d i) a (ea i c w) (access-sized i ∙ p) q (sym (mal-width i (ea i c w)) ∙ not-misaligned (eventsAs i c w io pfls) (sprAt c sr) s)
+    aligned-by (d i) a (ea i c w) (access-sized i ∙ p) q (mal-width i (ea i c w) ∙ not-misaligned (eventsAs i c w io pfls) (sprAt c sr) s)
 
 pub load-wide : (i : Instruction) → load i ≡ true → 0 < d i
 load-wide i e = wide (d i) (load-sized i e)

@@ -1,6 +1,6 @@
 -- The instructions by their mnemonics: predicates on an instruction are lists of names, as the report prints them.
 -- Assumes nothing.
-use mathlib.Core.Bool.{Bool, true, false, _||_}
+use mathlib.Core.Bool.{Bool, false, _||_}
 use mathlib.Core.List.{List, [], _∷_, _++_, map}
 use Prim.Native.Nat.{ℕ}
 use lib.Dec.{eqb}
@@ -143,6 +143,35 @@ jtype i = oneOf i (names table2)
 unfoldable pub rtype : Instruction → Bool
 rtype i = oneOf i (names (table3 ++ table4))
 
+-- ---- single instructions, where definitions print two or three of them
+
+abbrev pub lb : Instruction → Bool
+lb i = oneOf i (Instruction.Load Lb ∷ [])
+
+abbrev pub lh : Instruction → Bool
+lh i = oneOf i (Instruction.Load Lh ∷ [])
+
+abbrev pub lw : Instruction → Bool
+lw i = oneOf i (Instruction.Load Lw ∷ [])
+
+abbrev pub lbu : Instruction → Bool
+lbu i = oneOf i (Instruction.Load Lbu ∷ [])
+
+abbrev pub lhu : Instruction → Bool
+lhu i = oneOf i (Instruction.Load Lhu ∷ [])
+
+abbrev pub sb : Instruction → Bool
+sb i = oneOf i (Instruction.Store Sb ∷ [])
+
+abbrev pub sh : Instruction → Bool
+sh i = oneOf i (Instruction.Store Sh ∷ [])
+
+abbrev pub sw : Instruction → Bool
+sw i = oneOf i (Instruction.Store Sw ∷ [])
+
+abbrev pub jr : Instruction → Bool
+jr i = oneOf i (Instruction.Jump Jr ∷ [])
+
 -- ---- classes of instructions
 
 -- definition 25
@@ -176,12 +205,13 @@ su i = oneOf i (Instruction.Shift Sll ∷ Instruction.Shift Srl ∷ Instruction.
 
 -- definition 42
 unfoldable pub load : Instruction → Bool
-load i = oneOf i (Instruction.Load Lw ∷ Instruction.Load Lhu ∷ Instruction.Load Lh ∷ Instruction.Load Lbu ∷ Instruction.Load Lb ∷ [])
+load i = lw i || lhu i || lh i || lbu i || lb i
 
 unfoldable pub store : Instruction → Bool
-store i = oneOf i (Instruction.Store Sw ∷ Instruction.Store Sh ∷ Instruction.Store Sb ∷ [])
+store i = sw i || sh i || sb i
 
--- single instructions that definitions name
+-- ---- other single instructions that definitions name
+
 unfoldable pub cas : Instruction → Bool
 cas i = oneOf i (Instruction.System Cas ∷ [])
 

@@ -1,7 +1,7 @@
 -- Tables 1 to 4 of the report as one table: a row has the opcode, then the function code, rs and rt where they are printed, and the instruction.
 -- An instruction is the one whose printed codes all match; a word that matches none is illegal.
 -- Assumes nothing.
-use mathlib.Core.Bool.{Bool, true, false, _&&_}
+use mathlib.Core.Bool.{Bool, true, _&&_}
 use mathlib.Core.List.{List, [], _∷_, _++_}
 use Prim.Native.Nat.{ℕ}
 use lib.Dec.{eqb}
@@ -9,7 +9,6 @@ use Rattle.word.specs.Word.{if_then_else_}
 use Rattle.decode.specs.Fields.{opc, fun, rs, rt}
 use Rattle.decode.specs.declared.Load.{Load}
 use Rattle.decode.specs.declared.Load.the-variants.{Lb, Lh, Lw, Lbu, Lhu}
-use Rattle.decode.specs.declared.StoreWidth.{StoreWidth}
 use Rattle.decode.specs.declared.StoreWidth.the-variants.{Sb, Sh, Sw}
 use Rattle.decode.specs.declared.Immediate.{Immediate}
 use Rattle.decode.specs.declared.Immediate.the-variants.{Addi, Addiu, Slti, Sltiu, Andi, Ori, Xori, Lui}

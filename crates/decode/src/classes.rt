@@ -13,6 +13,54 @@ use super::System;
 ghost use mathlib.Core.Path.{_≡_};
 ghost use Rattle.decode.specs.Mnemonics as m;
 
+// The numbers that the tests below and their callers name.
+pub const LHU: u32 = 4;
+
+pub const SB: u32 = 5;
+
+pub const SW: u32 = 7;
+
+pub const ADDI: u32 = 8;
+
+pub const BLTZ: u32 = 16;
+
+pub const J: u32 = 22;
+
+pub const JAL: u32 = 23;
+
+pub const MTLO: u32 = 33;
+
+pub const MULTU: u32 = 35;
+
+pub const ADD: u32 = 36;
+
+pub const JR: u32 = 46;
+
+pub const JALR: u32 = 47;
+
+pub const SYSC: u32 = 48;
+
+pub const CAS: u32 = 49;
+
+pub const MFENCE: u32 = 50;
+
+pub const FLUSH: u32 = 51;
+
+pub const INVLPG: u32 = 52;
+
+pub const MADD: u32 = 53;
+
+pub const MUL: u32 = 55;
+
+pub const MSUBU: u32 = 57;
+
+pub const ERET: u32 = 58;
+
+pub const ILLEGAL: u32 = 61;
+
+// The bytes that the eight loads and stores access, a hexadecimal digit each, the first one lowest.
+pub const ACCESS_BYTES: u32 = 0x4212_1421;
+
 fn load_number(i: Load) -> u32
     ensures { λ r. ⌜ r ≡ m.number (Instruction.Load i) ⌝ }
 {
@@ -144,7 +192,7 @@ fn system_number(i: System) -> u32
     }
 }
 
-// 61 where no row matches.
+// ILLEGAL where no row matches.
 pub fn number(i: Instruction) -> u32
     ensures { λ r. ⌜ r ≡ m.number i ⌝ }
 {
@@ -159,45 +207,45 @@ pub fn number(i: Instruction) -> u32
         Instruction::Move(t) => move_number(t),
         Instruction::Alu(t) => alu_number(t),
         Instruction::System(t) => system_number(t),
-        Instruction::Illegal => 61,
+        Instruction::Illegal => ILLEGAL,
     }
 }
 
 pub fn is_load(i: Instruction) -> bool
     ensures { λ r. ⌜ r ≡ m.load i ⌝ }
 {
-    number(i) < 5
+    number(i) < SB
 }
 
 pub fn is_store(i: Instruction) -> bool
     ensures { λ r. ⌜ r ≡ m.store i ⌝ }
 {
     let n = number(i);
-    (4 < n) & (n < 8)
+    (LHU < n) & (n < ADDI)
 }
 
 pub fn is_cas(i: Instruction) -> bool
     ensures { λ r. ⌜ r ≡ m.cas i ⌝ }
 {
-    number(i) == 49
+    number(i) == CAS
 }
 
 pub fn is_mfence(i: Instruction) -> bool
     ensures { λ r. ⌜ r ≡ m.mfence i ⌝ }
 {
-    number(i) == 50
+    number(i) == MFENCE
 }
 
 pub fn is_flush(i: Instruction) -> bool
     ensures { λ r. ⌜ r ≡ m.flush i ⌝ }
 {
-    number(i) == 51
+    number(i) == FLUSH
 }
 
 pub fn is_invlpg(i: Instruction) -> bool
     ensures { λ r. ⌜ r ≡ m.invlpg i ⌝ }
 {
-    number(i) == 52
+    number(i) == INVLPG
 }
 
 // Tables 3 and 4.
@@ -205,7 +253,7 @@ pub fn is_rtype(i: Instruction) -> bool
     ensures { λ r. ⌜ r ≡ m.rtype i ⌝ }
 {
     let n = number(i);
-    (23 < n) & (n < 61)
+    (JAL < n) & (n < ILLEGAL)
 }
 
 // Definition 26: with an immediate, or with two registers.
@@ -213,7 +261,7 @@ pub fn is_alu(i: Instruction) -> bool
     ensures { λ r. ⌜ r ≡ m.alu i ⌝ }
 {
     let n = number(i);
-    (7 < n) & (n < 16) | (35 < n) & (n < 46)
+    (SW < n) & (n < BLTZ) | (MULTU < n) & (n < JR)
 }
 
 // Definition 32: a multiplication that writes HI and LO.
@@ -221,5 +269,5 @@ pub fn is_mulacc(i: Instruction) -> bool
     ensures { λ r. ⌜ r ≡ m.mulacc i ⌝ }
 {
     let n = number(i);
-    (33 < n) & (n < 36) | (52 < n) & (n < 58) & !(n == 55)
+    (MTLO < n) & (n < ADD) | (INVLPG < n) & (n < ERET) & !(n == MUL)
 }

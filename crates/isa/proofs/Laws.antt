@@ -1,21 +1,21 @@
 -- What holds of every instruction, interrupt and return, for those above.
 -- Assumes nothing.
-use mathlib.Core.Path.{_≡_, refl, sym, ap, _∙_, subst}
+use mathlib.Core.Path.{_≡_, refl, sym}
 use mathlib.Core.Bool.{Bool, true, false}
 use mathlib.Core.List.{List}
-use Prim.Native.Nat.{ℕ, zero, suc, _<_}
+use Prim.Native.Nat.{ℕ}
 use lib.Dec.{eqb}
-use lib.ListN.{length, getD, set, length-set}
+use lib.ListN.{getD, set}
 use lib.Seq.{getD-set-other}
-use borrow.Author.Tests.{eqb-false, eqb-true}
+use borrow.Author.Tests.{eqb-false}
 use Rattle.word.specs.Word.{if_then_else_}
 use Rattle.decode.specs.declared.Multiply.the-variants.{Mul}
 use Rattle.decode.specs.declared.Instruction.{Instruction}
 use Rattle.decode.specs.Fields.{rs, rt}
 use Rattle.decode.specs.Table.{decoded}
-use Rattle.decode.specs.Mnemonics.{movg2s, mulacc, mthi, mtlo, mul}
+use Rattle.decode.specs.Mnemonics.{mulacc, mthi, mtlo, mul}
 use Rattle.isa.specs.declared.registers.Registers.{Registers}
-use Rattle.isa.specs.Core.{gprAt, sprAt, putAt, ea, effect, deltaInstr, gprw, cad, gprdin, hiAfterMul, loAfterMul}
+use Rattle.isa.specs.Core.{gprAt, putAt, ea, deltaInstr, gprw, cad, gprdin, hiAfterMul, loAfterMul}
 use Rattle.isa.specs.Interrupts.{user, eventsAs, deltaJisr, deltaRfe, continues, il}
 use Rattle.isa.specs.inner.Outcomes.{eaBy, eventsBy}
 
@@ -48,11 +48,6 @@ unfolding deltaRfe
 rfe-zero c = refl
 
 -- ---- special registers
-
--- only movg2s writes a special register
-pub spr-kept : (c : Registers) (w R : ℕ) → movg2s (decoded w) ≡ false → deltaInstr c w R .spr ≡ c .spr
-unfolding deltaInstr
-spr-kept c w R e = rw e
 
 -- ---- mul
 

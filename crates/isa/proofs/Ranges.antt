@@ -1,27 +1,24 @@
 -- Predicates on instructions by their numbers: each is tested on every row of the tables.
 -- Assumes nothing.
 use mathlib.Core.Path.{_≡_, sym, _∙_, refl}
-use mathlib.Core.List.{[], _∷_}
-use mathlib.Core.Bool.{Bool, true, false, not, _&&_, _||_}
+use mathlib.Core.Bool.{Bool, false, not, _&&_, _||_}
 use Prim.Native.Nat.{ℕ, _<_, _+_, _*_, _/_, _%_, _^_}
-use lib.Dec.{T, eqb, ltb}
+use lib.Dec.{eqb, ltb}
 use native.Mathlib.Omega.{arith}
 use borrow.Author.Tests.{eqb-true, ne-eqb, le-ltb}
-use Rattle.word.specs.Word.{if_then_else_, isSet, flag}
+use Rattle.word.specs.Word.{if_then_else_, isSet, flag, sxt}
 use Rattle.word.proofs.Tests.{and-false, truth}
-use Rattle.decode.specs.declared.Load.the-variants.{Lh, Lw, Lhu}
-use Rattle.decode.specs.declared.StoreWidth.the-variants.{Sh, Sw}
 use Rattle.decode.specs.declared.System.the-variants.{Cas}
 use Rattle.decode.specs.declared.Instruction.{Instruction}
-use Rattle.decode.specs.Mnemonics.{number, oneOf, ill, alu, sysc}
+use Rattle.decode.specs.Mnemonics.{number, ill, alu, sysc, lw, lh, lhu, sh, sw, cas, movg2s, movs2g, eret, flush, invlpg}
 use Rattle.decode.proofs.Numbers.{every}
 use Rattle.decode.proofs.Ranges.{agree, ill-number, sysc-number, alu-range}
-use Rattle.isa.specs.Core.{d, mal}
+use Rattle.isa.specs.Core.{d, mal, lv}
 use Rattle.isa.specs.Interrupts.{privileged, mca}
 use Rattle.isa.specs.inner.Outcomes.{eaBy, ovfBy, eventsBy}
 
 pub privileged-range : (i : Instruction) → ((ltb 50 (number i) && ltb (number i) 53) || (ltb 57 (number i) && ltb (number i) 61)) ≡ privileged i
-unfolding privileged
+unfolding privileged movg2s movs2g eret flush invlpg
 privileged-range = agree (λ (i : Instruction). (ltb 50 (number i) && ltb (number i) 53) || (ltb 57 (number i) && ltb (number i) 61)) privileged tt
 
 -- no instruction with a number below 51 is illegal, in whatever mode
@@ -37,22 +34,27 @@ abbrev pub widthAt : ℕ → ℕ
 widthAt n = if ltb n 8 then 0x42121421 / 2 ^ (4 * n) % 8 else if eqb n 49 then 4 else 0
 
 pub width-number : (i : Instruction) → d i ≡ widthAt (number i)
-unfolding d
+unfolding d cas
 width-number i =
     eqb-true (d i) (widthAt (number i))
     (truth (eqb (d i) (widthAt (number i))) (every (λ (j : Instruction). eqb (d j) (widthAt (number j))) tt i))
 
+-- cas loads a word
+pub cas-value : (R : ℕ) → lv (Instruction.System Cas) R ≡ sxt 32 (R % 2 ^ 32)
+unfolding lv d cas
+cas-value R = refl
+
 -- an access is misaligned by its width alone
-words-width : (i : Instruction) → oneOf i (Instruction.Load Lw ∷ Instruction.Store Sw ∷ Instruction.System Cas ∷ []) ≡ eqb (d i) 4
-unfolding d
+words-width : (i : Instruction) → (lw i || sw i || cas i) ≡ eqb (d i) 4
+unfolding d cas
 words-width =
-    agree (λ (i : Instruction). oneOf i (Instruction.Load Lw ∷ Instruction.Store Sw ∷ Instruction.System Cas ∷ []))
+    agree (λ (i : Instruction). lw i || sw i || cas i)
     (λ (i : Instruction). eqb (d i) 4) tt
 
-halves-width : (i : Instruction) → oneOf i (Instruction.Load Lhu ∷ Instruction.Load Lh ∷ Instruction.Store Sh ∷ []) ≡ eqb (d i) 2
-unfolding d
+halves-width : (i : Instruction) → (lhu i || lh i || sh i) ≡ eqb (d i) 2
+unfolding d cas
 halves-width =
-    agree (λ (i : Instruction). oneOf i (Instruction.Load Lhu ∷ Instruction.Load Lh ∷ Instruction.Store Sh ∷ []))
+    agree (λ (i : Instruction). lhu i || lh i || sh i)
     (λ (i : Instruction). eqb (d i) 2) tt
 
 pub mal-width : (i : Instruction) (a : ℕ) → (eqb (d i) 4 && not (eqb (a % 2 ^ 2) 0)) || (eqb (d i) 2 && not (eqb (a % 2) 0)) ≡ mal i a

@@ -1,7 +1,7 @@
 -- An instruction, an interrupt and a return make words of words.
 -- Assumes nothing.
 use mathlib.Core.Bool.{Bool, not, _&&_, _||_}
-use mathlib.Core.List.{List, [], _∷_}
+use mathlib.Core.List.{List}
 use Prim.Native.Nat.{ℕ, _+_, _*_, _/_, _%_, _^_, _≤_, _<_}
 use native.Mathlib.Nat.{mod-lt, pow-le-pow-right}
 use native.Mathlib.Omega.{arith}
@@ -12,14 +12,10 @@ use Rattle.word.specs.Word.{if_then_else_, flag, isSet, plus, sxt, sll}
 use Rattle.word.proofs.Laws.{sxt-lt}
 use Rattle.word.proofs.Words.{if-both, if-lt, set-below}
 use Rattle.layout.specs.Layout as at
-use Rattle.decode.specs.declared.Load.the-variants.{Lb, Lh, Lw, Lbu, Lhu}
-use Rattle.decode.specs.declared.StoreWidth.the-variants.{Sb, Sh, Sw}
-use Rattle.decode.specs.declared.System.the-variants.{Cas}
-use Rattle.decode.specs.declared.Jump.the-variants.{Jr, Jalr}
 use Rattle.decode.specs.declared.Instruction.{Instruction}
 use Rattle.decode.specs.Fields.{rs, rt, rd, sa, imm, iindex}
 use Rattle.decode.specs.Table.{decoded}
-use Rattle.decode.specs.Mnemonics.{oneOf, itype, rtype, alu, mulacc, b, load, cas, jal, jalr, movg2s, movs2g, mfhi, mflo, mthi, mtlo, mul}
+use Rattle.decode.specs.Mnemonics.{lb, lh, lw, lbu, lhu, sb, sh, sw, jr, itype, rtype, alu, mulacc, b, load, cas, jal, jalr, movg2s, movs2g, mfhi, mflo, mthi, mtlo, mul}
 use Rattle.units.specs.Alu.{alucon}
 use Rattle.units.specs.Multiplication.{mulcon}
 use Rattle.units.specs.Shift.{sf}
@@ -36,9 +32,9 @@ pub use Rattle.word.proofs.Words.{Words, cons-below, append-below, take-below, 
 d-few : (i : Instruction) → d i < 5
 unfolding d
 d-few i =
-    if-lt (oneOf i (Instruction.Load Lb ∷ Instruction.Load Lbu ∷ Instruction.Store Sb ∷ [])) 1 _ (omega arith)
-    (if-lt (oneOf i (Instruction.Load Lh ∷ Instruction.Load Lhu ∷ Instruction.Store Sh ∷ [])) 2 _ (omega arith)
-    (if-lt (oneOf i (Instruction.Store Sw ∷ Instruction.Load Lw ∷ Instruction.System Cas ∷ [])) 4 0 (omega arith) (omega arith)))
+    if-lt (lb i || lbu i || sb i) 1 _ (omega arith)
+    (if-lt (lh i || lhu i || sh i) 2 _ (omega arith)
+    (if-lt (sw i || lw i || cas i) 4 0 (omega arith) (omega arith)))
 
 lv-lt : (i : Instruction) (R : ℕ) → lv i R < 2 ^ 32
 unfolding lv
@@ -47,7 +43,7 @@ lv-lt i R =
     let l : k ≤ 32 = omega (arith, d-few i) in
     let p : R % 2 ^ k < 2 ^ k = mod-lt R (pow-pos k) in
     let q : 2 ^ k ≤ 2 ^ 32 = pow-le-pow-right {n = 2} (omega arith) {i = k} {j = 32} l in
-    if-lt (oneOf i (Instruction.Load Lbu ∷ Instruction.Load Lhu ∷ [])) (R % 2 ^ k) (sxt k (R % 2 ^ k)) (omega arith) (sxt-lt k (R % 2 ^ k) l p)
+    if-lt (lbu i || lhu i) (R % 2 ^ k) (sxt k (R % 2 ^ k)) (omega arith) (sxt-lt k (R % 2 ^ k) l p)
 
 -- ---- registers
 
@@ -83,7 +79,7 @@ module _ (i : Instruction) (c : Registers) (w : ℕ) (C : RegisterWords c) where
   target-lt : btarget i c w < 2 ^ 32
   target-lt =
       if-lt (b i) (plus 32 (c .pc) (sll (sxt 16 (imm w)) 2)) _ (omega arith)
-      (if-lt (oneOf i (Instruction.Jump Jr ∷ Instruction.Jump Jalr ∷ [])) (gprAt c (rs w)) (nextPc c / 2 ^ 28 * 2 ^ 28 + iindex w * 2 ^ 2) (C .general (rs w)) (omega arith))
+      (if-lt (jr i || jalr i) (gprAt c (rs w)) (nextPc c / 2 ^ 28 * 2 ^ 28 + iindex w * 2 ^ 2) (C .general (rs w)) (omega arith))
 
   pub effect-words : (R : ℕ) → RegisterWords (effect i c w R)
   effect-words R =
@@ -116,15 +112,15 @@ jisr-words c w R ca k hc hk C =
     let x : ℕ = edataOf c (il ca) (eaAt c w) k in
     let hx : x < 2 ^ 32 = if-lt (eqb (il ca) 5) (eaAt c w) _ (ea-lt (decoded w) c w C) (if-lt (eqb (il ca) 1) k (sprAt c at.edata) hk (C .special at.edata)) in
     let s₁ : List ℕ = set (c .spr) at.sr 0 in
-    let s₂ : List ℕ = set s₁ at.esr (sprAt c at.sr) in
-    let s₃ : List ℕ = set s₂ at.eca ca in
-    let s₄ : List ℕ = set s₃ at.epc pc in
-    let s₅ : List ℕ = set s₄ at.edata x in
+    let s₂ : List ℕ = set s₁ at.mode 0 in
+    let s₃ : List ℕ = set s₂ at.esr (sprAt c at.sr) in
+    let s₄ : List ℕ = set s₃ at.eca ca in
+    let s₅ : List ℕ = set s₄ at.epc pc in
     let w₁ : Words s₁ = set-below (c .spr) at.sr 0 (C .special) (omega arith) in
-    let w₂ : Words s₂ = set-below s₁ at.esr (sprAt c at.sr) w₁ (C .special at.sr) in
+    let w₂ : Words s₂ = set-below s₁ at.mode 0 w₁ (omega arith) in
     record {
       general = if-both Words (continues (il ca)) (effect (decoded w) c w R .gpr) (c .gpr) (E .general) (C .general);
-      special = set-below s₅ at.mode 0 (set-below s₄ at.edata x (set-below s₃ at.epc pc (set-below s₂ at.eca ca w₂ hc) hp) hx) (omega arith);
+      special = set-below s₅ at.edata x (set-below s₄ at.epc pc (set-below s₃ at.eca ca (set-below s₂ at.esr (sprAt c at.sr) w₂ (C .special at.sr)) hc) hp) hx;
       counter = omega arith;
       high = C .high;
       low = C .low;

@@ -1,20 +1,16 @@
 -- Execution of an instruction on a core's registers (6.1.2 to 6.2). An instruction I is given as i, the instruction of its row in
 -- tables 1 to 4, and w, its word.
 -- Assumes nothing.
-use mathlib.Core.Bool.{Bool, true, false, not, _&&_, _||_}
-use mathlib.Core.List.{List, [], _∷_}
-use Prim.Native.Nat.{ℕ, _+_, _-_, _*_, _/_, _%_, _^_}
+use mathlib.Core.Bool.{Bool, not, _&&_, _||_}
+use mathlib.Core.List.{List}
+use Prim.Native.Nat.{ℕ, _+_, _*_, _/_, _%_, _^_}
 use lib.Dec.{eqb}
 use lib.ListN.{getD, set}
 use Rattle.word.specs.Word.{if_then_else_, isSet, plus, sxt, sll}
-use Rattle.decode.specs.declared.Load.the-variants.{Lb, Lh, Lw, Lbu, Lhu}
-use Rattle.decode.specs.declared.StoreWidth.the-variants.{Sb, Sh, Sw}
-use Rattle.decode.specs.declared.System.the-variants.{Cas}
-use Rattle.decode.specs.declared.Jump.the-variants.{Jr, Jalr}
 use Rattle.decode.specs.declared.Instruction.{Instruction}
 use Rattle.decode.specs.Fields.{rs, rt, rd, sa, imm, iindex}
 use Rattle.decode.specs.Table.{decoded}
-use Rattle.decode.specs.Mnemonics.{oneOf, itype, rtype, alu, mulacc, b, jump, su, load, cas, jal, jalr, movg2s, movs2g, mfhi, mflo, mthi, mtlo, mul}
+use Rattle.decode.specs.Mnemonics.{itype, rtype, alu, mulacc, b, jump, su, load, lb, lh, lw, lbu, lhu, sb, sh, sw, jr, cas, jal, jalr, movg2s, movs2g, mfhi, mflo, mthi, mtlo, mul}
 use Rattle.units.specs.Alu.{alures, alucon}
 use Rattle.units.specs.Multiplication.{mures, mulcon}
 use Rattle.units.specs.Branch.{bcres, bcon}
@@ -62,7 +58,7 @@ jbtaken i c w = jump i || (b i && bcres (gprAt c (rs w)) (gprAt c (rt w)) (bcon 
 abbrev pub btarget : Instruction → Registers → ℕ → ℕ
 btarget i c w =
     if b i then plus 32 (c .pc) (sll (sxt 16 (imm w)) 2)
-    else if oneOf i (Instruction.Jump Jr ∷ Instruction.Jump Jalr ∷ []) then gprAt c (rs w)
+    else if jr i || jalr i then gprAt c (rs w)
     else nextPc c / 2 ^ 28 * 2 ^ 28 + iindex w * 2 ^ 2
 
 -- definition 38; fun[2] tells the distances apart, not fun[3], which is 0 in all six shifts
@@ -83,21 +79,21 @@ ea i c w = eaOf (itype i) c w
 
 unfoldable pub d : Instruction → ℕ
 d i =
-    if oneOf i (Instruction.Load Lb ∷ Instruction.Load Lbu ∷ Instruction.Store Sb ∷ []) then 1
-    else if oneOf i (Instruction.Load Lh ∷ Instruction.Load Lhu ∷ Instruction.Store Sh ∷ []) then 2
-    else if oneOf i (Instruction.Store Sw ∷ Instruction.Load Lw ∷ Instruction.System Cas ∷ []) then 4
+    if lb i || lbu i || sb i then 1
+    else if lh i || lhu i || sh i then 2
+    else if sw i || lw i || cas i then 4
     else 0
 
 -- definition 41, at the effective address a
 unfoldable pub mal : Instruction → ℕ → Bool
 mal i a =
-    (oneOf i (Instruction.Load Lw ∷ Instruction.Store Sw ∷ Instruction.System Cas ∷ []) && not (eqb (a % 2 ^ 2) 0))
-    || (oneOf i (Instruction.Load Lhu ∷ Instruction.Load Lh ∷ Instruction.Store Sh ∷ []) && not (eqb (a % 2) 0))
+    ((lw i || sw i || cas i) && not (eqb (a % 2 ^ 2) 0))
+    || ((lhu i || lh i || sh i) && not (eqb (a % 2) 0))
 
 -- definition 43; R is the d(I) bytes that were read, of a longer number the low ones
 unfoldable pub lv : Instruction → ℕ → ℕ
 lv i R =
-    if oneOf i (Instruction.Load Lbu ∷ Instruction.Load Lhu ∷ []) then R % 2 ^ (8 * d i)
+    if lbu i || lhu i then R % 2 ^ (8 * d i)
     else sxt (8 * d i) (R % 2 ^ (8 * d i))
 
 -- definition 44

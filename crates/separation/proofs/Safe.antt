@@ -1,27 +1,25 @@
 -- A step writes only where its side may, and its block stays good unless it takes an interrupt.
 -- Assumes nothing.
-use mathlib.Core.Path.{_≡_, refl, sym, ap, ap₂, subst, _∙_}
-use mathlib.Core.Logic.{_⊎_, inl, inr, ⊎-elim, _≢_}
+use mathlib.Core.Path.{_≡_, refl, sym, ap, subst, _∙_}
+use mathlib.Core.Logic.{_⊎_, ⊎-elim, _≢_}
 use mathlib.Core.Bool.{Bool, true, false, _&&_, _||_, not, false≢true, true≢false}
-use mathlib.Core.List.{List, [], _∷_, _++_, map}
+use mathlib.Core.List.{List, [], _∷_}
 use Prim.Native.Nat.{ℕ, zero, suc, _+_, _-_, _*_, _/_, _%_, _^_, _<_, _≤_}
 use native.Mathlib.Omega.{arith}
-use lib.ListN.{length, getD, set}
-use lib.Dec.{eqb, ltb, leb}
+use lib.ListN.{length, set}
+use lib.Dec.{eqb, leb}
 use borrow.Author.Tests.{eqb-true, leb-true, eq-eqb, not-false}
-use Rattle.word.specs.Word.{if_then_else_, flag, isSet}
+use Rattle.word.specs.Word.{if_then_else_, flag}
 use Rattle.word.specs.Bytes.{bytesAt}
 use Rattle.word.proofs.Bytes.{Bytes}
-use Rattle.layout.specs.Layout as at
 use Rattle.decode.specs.declared.Instruction.{Instruction}
 use Rattle.decode.specs.Table.{decoded}
 use Rattle.decode.specs.Fields.{rs, rd, rt}
-use Rattle.decode.specs.Mnemonics.{flush, invlpg, load, store, cas, movg2s, eret, ill, sysc}
+use Rattle.decode.specs.Mnemonics.{flush, invlpg, load, store, cas, movg2s, movs2g, eret, ill}
 use Rattle.decode.proofs.Ranges.{agree}
 use Rattle.isa.specs.declared.registers.Registers.{Registers}
-use Rattle.isa.specs.declared.interrupts.Events.{Events}
-use Rattle.isa.specs.Core.{ea, d, gprAt, sprAt, effect}
-use Rattle.isa.specs.Interrupts.{user, jisr, il, causesOf, eventsAs, privileged}
+use Rattle.isa.specs.Core.{ea, d, gprAt}
+use Rattle.isa.specs.Interrupts.{user, jisr, causesOf, eventsAs, privileged}
 use Rattle.records.specs.declared.Walk.{Walk}
 use Rattle.records.specs.declared.Store.{Store}
 use Rattle.records.specs.declared.Flush.the-variants.{All, Incomplete}
@@ -34,7 +32,7 @@ use Rattle.tlb.specs.declared.Decision.{Decision}
 use Rattle.tlb.specs.declared.Decision.the-variants as decision
 use Rattle.tlb.specs.declared.Faulting.{Faulting}
 use Rattle.tlb.specs.declared.Faulting.the-variants.{Faults, Passes, Undecided}
-use Rattle.tlb.specs.Walks.{baseAddress, pageKey, walkVa, walkAsid, walkLevel, walkR, walkBa, walkOf, index, pteaAt, entryAt, pteA, pteP, pteR, pteBa, wextFault, complete, hit, suffices, storeR, loadR, pte, ptea, winit, wext, set-d}
+use Rattle.tlb.specs.Walks.{baseAddress, pageKey, walkVa, walkAsid, walkLevel, walkR, walkBa, index, pteaAt, entryAt, pteA, pteP, pteR, pteBa, wextFault, complete, hit, suffices, storeR, loadR, pte, ptea, winit, wext, set-d}
 use Rattle.tlb.specs.Steps.{userMode, runs, asidOf, originOf, extendable, onExtend, tlbExtend, onAccessed, tlbAccessed, tlbCreate, createOn, extendOn, accessedOn}
 use Rattle.tlb.proofs.Fields.{Fields, winit-fields, wext-fields, wext-present, first-lt, incomplete-level, index-lt, ptea-aligned}
 use Rattle.tlb.proofs.Steps.{entry-word, create-adds, Extended, extend-adds, Marked, accessed-marks, is-held, is-incomplete}
@@ -42,24 +40,20 @@ use Rattle.store_buffer.specs.declared.Read.{Read}
 use Rattle.store_buffer.specs.declared.Read.the-variants.{There, Nowhere}
 use Rattle.store_buffer.specs.declared.Loaded.{Loaded}
 use Rattle.store_buffer.specs.declared.Loaded.the-variants as load-variants
-use Rattle.store_buffer.specs.declared.Place.{Place}
 use Rattle.store_buffer.specs.declared.Place.the-variants as to
-use Rattle.store_buffer.specs.Leaving.{placeOf, wordOnly}
-use Rattle.store_buffer.specs.System.{isPort, memoryByte, reads, loaded, apicadr, ioapicadr}
-use Rattle.records.specs.Contents.{localPort, ioPort}
-use Rattle.steps.specs.declared.Answer.{Answer}
-use Rattle.steps.specs.declared.Answer.the-variants.{Done, Interrupt, Refused}
+use Rattle.store_buffer.specs.Leaving.{placeOf}
+use Rattle.store_buffer.specs.System.{isPort, memoryByte, reads, loaded}
+use Rattle.steps.specs.declared.Answer.the-variants.{Done, Refused}
 use Rattle.steps.specs.declared.Step.{Step}
-use Rattle.cores.specs.Guards.{Judged, yield, ask, test}
-use Rattle.cores.specs.Core.{View, viewOf, isEvent, vectorOf, causes, suppressed, stopped, causesWithout, faulted, faultOf, physical, onLoad, onStore, onCas, exchanged, storedFrom, performed, plain, droppedBy, unlessSuppressed, isAccess, avoidsPorts, hasHazard, onAddress, onData, onAccess, onInstruction, findsBuffer, dataRequestOf, fetchRequestOf, onWord, onFetchAddress, onFetch, fetch, judged, corePlan, isFree, withoutAccess}
-use Rattle.cores.specs.declared.CoreChange.{CoreChange}
+use Rattle.cores.specs.Guards.{test}
+use Rattle.cores.specs.Core.{View, viewOf, isEvent, causes, suppressed, stopped, causesWithout, faulted, faultOf, physical, onLoad, onStore, onCas, exchanged, storedFrom, performed, droppedBy, isAccess, avoidsPorts, hasHazard, onAddress, onData, onAccess, onInstruction, findsBuffer, dataRequestOf, fetchRequestOf, onWord, onFetchAddress, onFetch, fetch, judged, corePlan, isFree, withoutAccess}
 use Rattle.cores.specs.declared.CoreChange.the-variants as change
 use Rattle.cores.specs.declared.BufferChange.{BufferChange}
 use Rattle.cores.specs.declared.BufferChange.the-variants.{Put, Take}
 use Rattle.cores.specs.declared.WalkChange.{WalkChange}
 use Rattle.cores.specs.declared.WalkChange.the-variants.{Add, Drop}
 use Rattle.cores.specs.declared.Write.{Write}
-use Rattle.cores.specs.declared.Write.the-variants.{Memory, LocalPort, IoPort}
+use Rattle.cores.specs.declared.Write.the-variants.{Memory}
 use Rattle.cores.specs.declared.Plan.{Plan}
 use Rattle.cores.specs.Plans.{refused, done, interrupted, changed, finished}
 use Rattle.cores.specs.Walks.{adding, planned}
@@ -67,11 +61,11 @@ use Rattle.cores.specs.Buffer.{leavesTo, onOldest, bufferStep}
 use Rattle.cores.specs.Commit.{writtenTo}
 use Rattle.cores.proofs.Sounds.{registersAfter}
 use Rattle.cores.proofs.Accesses.{access-aligned, cas-width}
-use Rattle.reach.specs.Reach.{Pages, tablePages, reached, grantsWrite}
+use Rattle.reach.specs.Reach.{Pages, tablePages, grantsWrite}
 use Rattle.separation.specs.Separation.{isInterrupt}
-use Rattle.reach.proofs.Lists.{tested, clash, and-left, and-right, and-both, or-cases, or-left, or-right, or-none-left, or-none-right, if-both, In, Each}
+use Rattle.reach.proofs.Lists.{clash, and-left, and-right, or-cases, or-left, or-none-left, or-none-right, if-both, In, Each}
 use Rattle.separation.proofs.Memory.{page, Fits, same-page, Kept, kept-refl, put-free, put-mark}
-use Rattle.separation.proofs.Good.{AtLevel, WalkOk, StoreOk, Good, Closed, Low, low-local, low-io, table-reached, writable-reached, walk-table, walk-page}
+use Rattle.separation.proofs.Good.{AtLevel, WalkOk, StoreOk, Good, Closed, Low, low-local, low-io, writable-reached, walk-table, walk-page}
 use Rattle.cores.proofs.Asked.{Judges, judges-yield, judges-ask, judges-test, judges-if, judges-settle}
 use Rattle.separation.proofs.Local.{aligned-fits, join-page, view-user, guard-held, guard-complete, complete-page, held-ok, user-address}
 use Rattle.machine.proofs.Locality as plans
@@ -98,7 +92,7 @@ pub record Safe (S : Pages) (m b : List ℕ) (p : Plan) : Type 0 where
 -- ---- in user mode an instruction that is not interrupted leaves the special registers
 
 special-or : (i : Instruction) → ((movg2s i || eret i) && privileged i) ≡ (movg2s i || eret i)
-unfolding movg2s eret privileged
+unfolding movg2s movs2g eret flush invlpg privileged
 special-or = agree (λ (i : Instruction). (movg2s i || eret i) && privileged i) (λ (i : Instruction). movg2s i || eret i) tt
 
 flag-none : (t : Bool) → flag t ≡ 0 → t ≡ false

@@ -2,7 +2,7 @@ use borrow.Author.Needs.{needs}
 use Rattle.isa.proofs.outcomes.Operands.system.Statement.{statement}
 use Rattle.isa.proofs.outcomes.Operands.system.Tie as tie
 use Rattle.isa.specs.inner.Outcomes.{systemBy}
-use Rattle.isa.specs.Core.{lv, d}
+use Rattle.isa.proofs.Ranges.{cas-value}
 use Rattle.word.proofs.Laws.{sxt-whole}
 
 is-cas-requires : tie.Need-is-cas-requires
@@ -15,8 +15,8 @@ write-requires : tie.Need-write-requires
 write-requires c κs = search needs
 
 returns : tie.Need-returns
-unfolding systemBy lv d
-returns c = rw (c .write .ensures, c .before .rd .ensures, ← c .before .before .before .is-cas .ensures, c .before .before .if1 .taken, sxt-whole (c .before .before .before .before .args .read) (search needs))
+unfolding systemBy
+returns c = rw (c .write .ensures, c .before .rd .ensures, ← c .before .before .before .is-cas .ensures, c .before .before .if1 .taken, cas-value, sxt-whole (c .before .before .before .before .args .read) (search needs))
 
 pass-requires : tie.Need-pass-requires
 pass-requires c κs = search needs
