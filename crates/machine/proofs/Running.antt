@@ -19,7 +19,7 @@ use Rattle.machine.specs.declared.run.Ran.{Ran}
 use Rattle.machine.specs.declared.run.Stop.{Stop}
 use Rattle.machine.specs.declared.run.Stop.the-variants as stop
 use Rattle.machine.specs.Step.{isAccepted, Stepped, taken, step}
-use Rattle.machine.specs.Run.{Result, Is, stopsWith, stopOf, onStep, runFrom, whole, run}
+use Rattle.machine.specs.Run.{Result, Is, stopsWith, stopOf, onStep, runFrom, whole, run, stopNumber}
 use Rattle.machine.proofs.Taking.{is-sound}
 use Rattle.machine.proofs.Keeping.{step-sound}
 
@@ -145,6 +145,7 @@ same-result p q q′ e =
     record {
       same-accepted = p .0 ∙ ap (λ y. y .accepted) e;
       same-why = p .1 ∙ ap (λ y. y .why) e;
+      same-number = ap stopNumber (p .1 ∙ ap (λ y. y .why) e);
       same-tables = q ∙ ap (λ y. y .tables) e;
       same-memory = q′ ∙ ap (λ y. y .memory) e;
     }

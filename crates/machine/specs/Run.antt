@@ -53,9 +53,16 @@ run t m s limit =
     else if not (whole s) then stopsWith 0 (stop.Refused 11) t m
     else runFrom (length s / 6) s limit 0 t m
 
+-- the number for each reason: 0 the end, 1 the limit is spent, 100 and 01's number of a refusal
+abbrev pub stopNumber : Stop → ℕ
+stopNumber stop.End = 0
+stopNumber stop.Limit = 1
+stopNumber (stop.Refused n) = 100 + n
+
 -- what the operation answers and leaves is a result
 pub record Is (r : Ran) (t m : List ℕ) (x : Result) : Type 0 where
   pub same-accepted : r .accepted ≡ x .accepted
   pub same-why : r .stop ≡ x .why
+  pub same-number : stopNumber (r .stop) ≡ stopNumber (x .why)
   pub same-tables : t ≡ x .tables
   pub same-memory : m ≡ x .memory

@@ -12,6 +12,7 @@ ghost use Prim.Native.Nat.{_≤_};
 ghost use lib.ListN.{length};
 ghost use Rattle.tables.specs.Sound.{sound};
 ghost use Rattle.tables.specs.Views.{coresOf};
+ghost use Rattle.steps.specs.Answers.{answerNumber};
 ghost use Rattle.machine.specs.Decide.{byStep};
 ghost use Rattle.machine.specs.inner.Split as y;
 ghost use Rattle.machine.specs.Step as x;
@@ -96,6 +97,7 @@ pub fn step(t: &mut [u32], m: &mut [u8], s: &[u32]) -> Answer
     ensures { λ r. ⌜ r ≡ x.step (now (t .entry)) (now (m .entry)) (now (s .entry)) .answer ⌝ }
     ensures { λ _. ⌜ now (t .exit) ≡ x.step (now (t .entry)) (now (m .entry)) (now (s .entry)) .tables ⌝ }
     ensures { λ _. ⌜ now (m .exit) ≡ x.step (now (t .entry)) (now (m .entry)) (now (s .entry)) .memory ⌝ }
+    ensures { λ r. ⌜ answerNumber r ≡ answerNumber (x.step (now (t .entry)) (now (m .entry)) (now (s .entry)) .answer) ⌝ }
 {
     if !tables::sound(t, m.len()) {
         return Answer::Refused(4);

@@ -16,10 +16,9 @@ use Rattle.steps.specs.declared.Answer.the-variants.{Done, Interrupt, Refused}
 use Rattle.steps.specs.Answers.{answerNumber}
 use Rattle.machine.specs.declared.run.Stop.the-variants as stop
 use Rattle.machine.specs.Step.{isAccepted, taken, step}
-use Rattle.machine.specs.Run.{Result, stopsWith, stopOf, onStep, runFrom, whole, run}
+use Rattle.machine.specs.Run.{stopNumber, Result, stopsWith, stopOf, onStep, runFrom, whole, run}
 use Rattle.machine.proofs.Levels.{known}
 use Rattle.machine.proofs.Answers.{taken-known}
-use Rattle.mips86.specs.Numbers.{stopNumber}
 
 -- ---- numbers
 

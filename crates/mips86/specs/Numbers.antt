@@ -1,11 +1,9 @@
--- What the interface for C answers, as one number. For a step it is answerNumber (steps, specs/Answers), for reach reachedNumber,
+-- What the interface for C answers, as one number. For a step it is answerNumber (steps, specs/Answers), for a run stopNumber (machine, specs/Run), for reach reachedNumber,
 -- and beyondOf for the word at `beyond` (reach, specs/Reach), for apart verdictNumber (separation, specs/Apart).
 -- Assumes nothing.
 use Prim.Native.Nat.{ℕ, zero, suc, _+_}
 use Rattle.tables.specs.declared.make.Made.{Made}
 use Rattle.tables.specs.Make.{numberOf}
-use Rattle.machine.specs.declared.run.Stop.{Stop}
-use Rattle.machine.specs.declared.run.Stop.the-variants.{End, Limit, Refused}
 
 -- 0 as it is, and 100 and the number of a refusal
 abbrev pub refusalOr0 : ℕ → ℕ
@@ -15,9 +13,3 @@ refusalOr0 (suc n) = 100 + suc n
 -- make: 0 made, 100 and the number of a refusal
 abbrev pub madeNumber : Made → ℕ
 madeNumber a = refusalOr0 (numberOf a)
-
--- run: 0 the end, 1 the limit is spent, 100 and the number of a refusal
-abbrev pub stopNumber : Stop → ℕ
-stopNumber End = 0
-stopNumber Limit = 1
-stopNumber (Refused n) = 100 + n

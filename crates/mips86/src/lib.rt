@@ -15,7 +15,7 @@ ghost use Rattle.machine.specs.Run as many;
 ghost use Rattle.reach.specs.Reach.{reachOn, reachedNumber, beyondOf};
 ghost use Rattle.separation.specs.Apart.{apartOn, verdictNumber};
 ghost use Rattle.separation.specs.Separation.{machineOf, Promised};
-ghost use Rattle.mips86.specs.Numbers.{madeNumber, stopNumber};
+ghost use Rattle.mips86.specs.Numbers.{madeNumber, refusalOr0};
 
 fn made_number(a: Made) -> u32
     ensures { λ r. ⌜ r ≡ madeNumber a ⌝ }
@@ -40,8 +40,8 @@ fn answer_number(a: Answer) -> u32
 }
 
 fn stop_number(s: Stop) -> u32
-    requires { ⌜ stopNumber s < 2 ^ 32 ⌝ }
-    ensures { λ r. ⌜ r ≡ stopNumber s ⌝ }
+    requires { ⌜ many.stopNumber s < 2 ^ 32 ⌝ }
+    ensures { λ r. ⌜ r ≡ many.stopNumber s ⌝ }
 {
     match s {
         Stop::End => 0,
@@ -53,8 +53,8 @@ fn stop_number(s: Stop) -> u32
 // Makes a machine: 0, or 100 and the number of a refusal.
 #[no_mangle]
 pub extern "C" fn mips86_make(tables: &mut [u32], memory: &[u8], cores: u32) -> u32
-    ensures { λ r. ⌜ r ≡ madeNumber (made.answer cores (length (now (memory .entry))) (length (now (tables .entry)))) ⌝ }
-    ensures { λ _. ⌜ now (tables .exit) ≡ made.madeOr (made.answer cores (length (now (memory .entry))) (length (now (tables .entry)))) cores (length (now (memory .entry))) (now (tables .entry)) ⌝ }
+    ensures { λ r. ⌜ r ≡ refusalOr0 (made.refusal cores (length (now (memory .entry))) (length (now (tables .entry)))) ⌝ }
+    ensures { λ _. ⌜ now (tables .exit) ≡ made.madeOr (made.refusal cores (length (now (memory .entry))) (length (now (tables .entry)))) cores (length (now (memory .entry))) (now (tables .entry)) ⌝ }
 {
     made_number(tables::make::make(tables, memory, cores))
 }
@@ -78,7 +78,7 @@ pub extern "C" fn mips86_run(
     limit: u32,
     accepted: &mut u32,
 ) -> u32
-    ensures { λ r. ⌜ r ≡ stopNumber (many.run (now (tables .entry)) (now (memory .entry)) (now (schedule .entry)) limit .why) ⌝ }
+    ensures { λ r. ⌜ r ≡ many.stopNumber (many.run (now (tables .entry)) (now (memory .entry)) (now (schedule .entry)) limit .why) ⌝ }
     ensures { λ _. ⌜ now (accepted .exit) ≡ many.run (now (tables .entry)) (now (memory .entry)) (now (schedule .entry)) limit .accepted ⌝ }
     ensures { λ _. ⌜ now (tables .exit) ≡ many.run (now (tables .entry)) (now (memory .entry)) (now (schedule .entry)) limit .tables ⌝ }
     ensures { λ _. ⌜ now (memory .exit) ≡ many.run (now (tables .entry)) (now (memory .entry)) (now (schedule .entry)) limit .memory ⌝ }

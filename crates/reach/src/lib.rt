@@ -48,6 +48,8 @@ pub fn is_group(group: u32, cores: u32) -> bool
 pub fn reach(t: &[u32], m: &[u8], group: u32, map: &mut [u8]) -> Reached
     ensures { λ r. ⌜ r ≡ x.reachOn group (now (t .entry)) (now (m .entry)) (now (map .entry)) .answer ⌝ }
     ensures { λ _. ⌜ now (map .exit) ≡ x.reachOn group (now (t .entry)) (now (m .entry)) (now (map .entry)) .map ⌝ }
+    ensures { λ r. ⌜ x.reachedNumber r ≡ x.reachedNumber (x.reachOn group (now (t .entry)) (now (m .entry)) (now (map .entry)) .answer) ⌝ }
+    ensures { λ r. ⌜ x.beyondOf r ≡ x.beyondOf (x.reachOn group (now (t .entry)) (now (m .entry)) (now (map .entry)) .answer) ⌝ }
 {
     if !tables::sound(t, m.len()) {
         return Reached::Refused(4);

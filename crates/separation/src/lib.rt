@@ -71,6 +71,7 @@ fn judged(t: &[u32], m: &[u8], group: u32) -> Verdict
 pub fn apart(t: &[u32], m: &[u8], group: u32) -> Verdict
     ensures { λ r. ⌜ r ≡ x.apartOn group (now (t .entry)) (now (m .entry)) ⌝ }
     ensures { λ r. ⌜ (r ≡ Verdict.Yes → y.Promised group (y.machineOf (now (t .entry)) (now (m .entry)))) ⌝ }
+    ensures { λ r. ⌜ x.verdictNumber r ≡ x.verdictNumber (x.apartOn group (now (t .entry)) (now (m .entry))) ⌝ }
 {
     judged(t, m, group)
 }

@@ -10,10 +10,8 @@ use lib.Dec.{eqb, ltb, leb}
 use borrow.Author.Tests.{lt-ltb, le-ltb, le-leb, lt-leb, leb-true, eq-eqb, ne-eqb}
 use Rattle.layout.specs.Layout as at
 use Rattle.records.proofs.Counts.{either, and-right}
-use Rattle.tables.specs.declared.make.Made.{Made}
-use Rattle.tables.specs.declared.make.Made.the-variants.{Done, Cores, Memory, Length}
 use Rattle.tables.specs.Sound.{upTo}
-use Rattle.tables.specs.Make.{answer, refusal, numberOf, wholePages}
+use Rattle.tables.specs.Make.{refusal, wholePages}
 
 leb-not : (a b : ℕ) → leb a b ≡ not (ltb b a)
 leb-not a b = either (decLt b a) (λ h. rw (lt-leb a b h, lt-ltb b a h)) (λ h. rw (le-leb a b (omega arith), le-ltb b a (omega arith)))
@@ -33,9 +31,9 @@ whole-pages : (m : ℕ) → wholePages m ≡ not (not (eqb (m % 4096) 0) || (ltb
 whole-pages m = ap (λ (t : Bool). eqb (m % 4096) 0 && t) (up-to 4096 (m / 4096)) ∙ and-or (eqb (m % 4096) 0) (ltb (m / 4096) 1 || ltb 4096 (m / 4096))
 
 module _ (n m l : ℕ) where
-  pub refuse-cores : ltb n 1 || ltb 4 n ≡ true → Cores ≡ answer n m l
-  unfolding answer
-  refuse-cores e = let f : upTo at.mostCores n ≡ false = up-to 4 n ∙ ap not e in rw (f, answer)
+  pub refuse-cores : ltb n 1 || ltb 4 n ≡ true → 1 ≡ refusal n m l
+  unfolding refusal
+  refuse-cores e = let f : upTo at.mostCores n ≡ false = up-to 4 n ∙ ap not e in rw (f, refusal)
 
   module _ (e : ltb n 1 || ltb 4 n ≡ false) where
     few : upTo at.mostCores n ≡ true
@@ -44,9 +42,9 @@ module _ (n m l : ℕ) where
     pub few-cores : n ≤ 4
     few-cores = leb-true n 4 (and-right (leb 1 n) (leb n 4) few)
 
-    pub refuse-memory : not (eqb (m % 4096) 0) || (ltb (m / 4096) 1 || ltb 4096 (m / 4096)) ≡ true → Memory ≡ answer n m l
-    unfolding answer
-    refuse-memory g = let f : wholePages m ≡ false = whole-pages m ∙ ap not g in rw (few, answer) (rw (f, answer))
+    pub refuse-memory : not (eqb (m % 4096) 0) || (ltb (m / 4096) 1 || ltb 4096 (m / 4096)) ≡ true → 2 ≡ refusal n m l
+    unfolding refusal
+    refuse-memory g = let f : wholePages m ≡ false = whole-pages m ∙ ap not g in rw (few, refusal) (rw (f, refusal))
 
     module _ (g : not (eqb (m % 4096) 0) || (ltb (m / 4096) 1 || ltb 4096 (m / 4096)) ≡ false) where
       whole : wholePages m ≡ true
@@ -55,23 +53,10 @@ module _ (n m l : ℕ) where
       pub few-pages : m / 4096 ≤ 4096
       few-pages = leb-true (m / 4096) 4096 (and-right (leb 1 (m / 4096)) (leb (m / 4096) 4096) (and-right (eqb (m % 4096) 0) (upTo 4096 (m / 4096)) whole))
 
-      pub refuse-length : l ≢ 32 + 256 * n → Length ≡ answer n m l
-      unfolding answer
-      refuse-length d = let f : eqb l (at.tableWords n) ≡ false = ne-eqb l (at.tableWords n) d in rw (few, answer) (rw (whole, answer) (rw (f, answer)))
+      pub refuse-length : l ≢ 32 + 256 * n → 3 ≡ refusal n m l
+      unfolding refusal
+      refuse-length d = let f : eqb l (at.tableWords n) ≡ false = ne-eqb l (at.tableWords n) d in rw (few, refusal) (rw (whole, refusal) (rw (f, refusal)))
 
-      pub accept : l ≡ 32 + 256 * n → Done ≡ answer n m l
-      unfolding answer
-      accept d = let f : eqb l (at.tableWords n) ≡ true = eq-eqb l (at.tableWords n) d in rw (few, answer) (rw (whole, answer) (rw (f, answer)))
-
--- the numbers of the answers are 01's refusals
-number-cases : (a b c : Bool) →
-    numberOf (elim a [ false ↦ Cores | true ↦ elim b [ false ↦ Memory | true ↦ elim c [ false ↦ Length | true ↦ Done ] ] ])
-    ≡ elim a [ false ↦ 1 | true ↦ elim b [ false ↦ 2 | true ↦ elim c [ false ↦ 3 | true ↦ 0 ] ] ]
-number-cases false b c = refl
-number-cases true false c = refl
-number-cases true true false = refl
-number-cases true true true = refl
-
-pub numbered : (n m l : ℕ) {r : Made} → r ≡ answer n m l → numberOf r ≡ refusal n m l
-unfolding answer refusal
-numbered n m l e = ap numberOf e ∙ number-cases (upTo at.mostCores n) (wholePages m) (eqb l (at.tableWords n))
+      pub accept : l ≡ 32 + 256 * n → 0 ≡ refusal n m l
+      unfolding refusal
+      accept d = let f : eqb l (at.tableWords n) ≡ true = eq-eqb l (at.tableWords n) d in rw (few, refusal) (rw (whole, refusal) (rw (f, refusal)))

@@ -38,20 +38,19 @@ made n p = n ∷ p ∷ replicate 30 0 ++ madeBlocks n
 abbrev pub wholePages : ℕ → Bool
 wholePages m = eqb (m % at.pageBytes) 0 && upTo at.mostPages (m / at.pageBytes)
 
--- the answer for a number of cores, a memory of m bytes and tables of l words; the first refusal is given
-unfoldable pub answer : ℕ → ℕ → ℕ → Made
-answer n m l =
+-- the answer for a number of cores, a memory of m bytes and tables of l words: 0, or the first that applies of 1, cores not 1 to 4; 2, memory not
+-- 1 to 4,096 whole pages; 3, table length not that of the cores
+unfoldable pub refusal : ℕ → ℕ → ℕ → ℕ
+refusal n m l =
     elim (upTo at.mostCores n) [
-      | false ↦ Cores
-      | true ↦ elim (wholePages m) [ false ↦ Memory | true ↦ elim (eqb l (at.tableWords n)) [ false ↦ Length | true ↦ Done ] ]
+      | false ↦ 1
+      | true ↦ elim (wholePages m) [ false ↦ 2 | true ↦ elim (eqb l (at.tableWords n)) [ false ↦ 3 | true ↦ 0 ] ]
     ]
 
 -- the tables after it: a refusal writes nothing
-abbrev pub madeOr : Made → ℕ → ℕ → List ℕ → List ℕ
-madeOr Done n m t = made n (m / at.pageBytes)
-madeOr Cores n m t = t
-madeOr Memory n m t = t
-madeOr Length n m t = t
+abbrev pub madeOr : ℕ → ℕ → ℕ → List ℕ → List ℕ
+madeOr zero n m t = made n (m / at.pageBytes)
+madeOr (suc k) n m t = t
 
 -- 01's number for each answer, 0 where the machine is made
 abbrev pub numberOf : Made → ℕ
@@ -59,11 +58,3 @@ numberOf Done = 0
 numberOf Cores = 1
 numberOf Memory = 2
 numberOf Length = 3
-
--- 01's refusals in their order: 1, cores not 1 to 4; 2, memory not 1 to 4,096 whole pages; 3, table length not that of the cores
-unfoldable pub refusal : ℕ → ℕ → ℕ → ℕ
-refusal n m l =
-    elim (upTo at.mostCores n) [
-      | false ↦ 1
-      | true ↦ elim (wholePages m) [ false ↦ 2 | true ↦ elim (eqb l (at.tableWords n)) [ false ↦ 3 | true ↦ 0 ] ]
-    ]

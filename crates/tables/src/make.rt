@@ -97,9 +97,8 @@ fn fill(tables: &mut [u32], n: u32, pages: u32)
 
 // Makes a machine of n cores: fills the tables, and leaves memory.
 pub fn make(tables: &mut [u32], memory: &[u8], n: u32) -> Made
-    ensures { λ r. ⌜ r ≡ x.answer n (length (now (memory .entry))) (length (now (tables .entry))) ⌝ }
     ensures { λ r. ⌜ x.numberOf r ≡ x.refusal n (length (now (memory .entry))) (length (now (tables .entry))) ⌝ }
-    ensures { λ r. ⌜ now (tables .exit) ≡ x.madeOr r n (length (now (memory .entry))) (now (tables .entry)) ⌝ }
+    ensures { λ _. ⌜ now (tables .exit) ≡ x.madeOr (x.refusal n (length (now (memory .entry))) (length (now (tables .entry)))) n (length (now (memory .entry))) (now (tables .entry)) ⌝ }
 {
     if (n < 1) | (MOST_CORES < n) {
         return Made::Cores;

@@ -2,11 +2,7 @@
 -- Assumes nothing.
 use borrow.Author.Needs.{needs}
 use mathlib.Core.Path.{ap, _∙_}
-use denote.Ref.{now}
-use lib.ListN.{length}
-use Rattle.tables.specs.declared.make.Made.{Made}
-use Rattle.tables.specs.Make.{madeOr}
-use Rattle.mips86.specs.Numbers.{madeNumber}
+use Rattle.mips86.specs.Numbers.{refusalOr0}
 use Rattle.mips86.proofs.mips86_make.Statement.{statement}
 use Rattle.mips86.proofs.mips86_make.Tie as tie
 
@@ -20,7 +16,7 @@ same-length : tie.Need-same-length
 same-length c = search needs
 
 returns : tie.Need-returns
-returns c = (c .made-number .ensures ∙ ap madeNumber (c .before .before .before .make .ensures .0), c .before .before .before .make .ensures .1 .1 ∙ ap (λ (a : Made). madeOr a (c .before .before .before .before .before .before .before .args .cores) (length (now (c .before .before .before .before .before .before .before .args .memory))) (now (c .before .before .before .before .before .before .before .args .tables))) (c .before .before .before .make .ensures .0))
+returns c = (c .made-number .ensures ∙ ap refusalOr0 (c .before .before .before .make .ensures .0), c .before .before .before .make .ensures .1)
 
 pub mips86-make-spec : {M : Type 1} → statement M
 mips86-make-spec = tie.close (tie.spec make-requires made-number-requires same-length returns)

@@ -1,8 +1,7 @@
 -- `mips86::mips86_reach` meets its contract.
 -- Assumes nothing.
-use mathlib.Core.Path.{ap, _∙_}
+use mathlib.Core.Path.{_∙_}
 use denote.Ref.{now}
-use Rattle.reach.specs.Reach.{reachedNumber, beyondOf}
 use Rattle.mips86.proofs.Numbers.{reached-fits}
 use borrow.Author.Needs.{needs}
 use Rattle.mips86.proofs.mips86_reach.Statement.{statement}
@@ -21,7 +20,7 @@ same-length : tie.Need-same-length
 same-length c = search needs
 
 returns : tie.Need-returns
-returns c = (c .reached-number .ensures ∙ ap reachedNumber (c .before .before .before .before .reach .ensures .0), (c .before .beyond-number .ensures ∙ ap beyondOf (c .before .before .before .before .reach .ensures .0), c .before .before .before .before .reach .ensures .1))
+returns c = (c .reached-number .ensures ∙ c .before .before .before .before .reach .ensures .1 .1 .0, (c .before .beyond-number .ensures ∙ c .before .before .before .before .reach .ensures .1 .1 .1, c .before .before .before .before .reach .ensures .1 .0))
 
 pub mips86-reach-spec : {M : Type 1} → statement M
 mips86-reach-spec =

@@ -1,9 +1,8 @@
 -- `mips86::mips86_run` meets its contract.
 -- Assumes nothing.
 use borrow.Author.Needs.{needs}
-use mathlib.Core.Path.{ap, _∙_}
+use mathlib.Core.Path.{_∙_}
 use denote.Ref.{now}
-use Rattle.mips86.specs.Numbers.{stopNumber}
 use Rattle.mips86.proofs.Answers.{stop-fits}
 use Rattle.mips86.proofs.mips86_run.Statement.{statement}
 use Rattle.mips86.proofs.mips86_run.Tie as tie
@@ -21,7 +20,7 @@ same-length-2 : tie.Need-same-length-2
 same-length-2 c = search needs
 
 returns : tie.Need-returns
-returns c = (c .stop-number .ensures ∙ ap stopNumber (c .before .before .before .before .before .run .ensures .same-why), (c .before .before .before .before .before .run .ensures .same-accepted, (c .before .before .before .before .before .run .ensures .same-tables, c .before .before .before .before .before .run .ensures .same-memory)))
+returns c = (c .stop-number .ensures ∙ c .before .before .before .before .before .run .ensures .same-number, (c .before .before .before .before .before .run .ensures .same-accepted, (c .before .before .before .before .before .run .ensures .same-tables, c .before .before .before .before .before .run .ensures .same-memory)))
 
 pub mips86-run-spec : {M : Type 1} → statement M
 mips86-run-spec =

@@ -1,9 +1,8 @@
 -- `mips86::mips86_step` meets its contract.
 -- Assumes nothing.
 use borrow.Author.Needs.{needs}
-use mathlib.Core.Path.{ap, _∙_}
+use mathlib.Core.Path.{_∙_}
 use denote.Ref.{now}
-use Rattle.steps.specs.Answers.{answerNumber}
 use Rattle.mips86.proofs.Answers.{answer-fits}
 use Rattle.mips86.proofs.mips86_step.Statement.{statement}
 use Rattle.mips86.proofs.mips86_step.Tie as tie
@@ -21,7 +20,7 @@ same-length-2 : tie.Need-same-length-2
 same-length-2 c = search needs
 
 returns : tie.Need-returns
-returns c = (c .answer-number .ensures ∙ ap answerNumber (c .before .before .before .before .before .step .ensures .0), (c .before .before .before .before .before .step .ensures .1 .0, c .before .before .before .before .before .step .ensures .1 .1))
+returns c = (c .answer-number .ensures ∙ c .before .before .before .before .before .step .ensures .1 .1 .1, (c .before .before .before .before .before .step .ensures .1 .0, c .before .before .before .before .before .step .ensures .1 .1 .0))
 
 pub mips86-step-spec : {M : Type 1} → statement M
 mips86-step-spec =

@@ -1,9 +1,9 @@
 -- `mips86::stop_number` meets its contract.
 -- Assumes nothing.
 use borrow.Author.Needs.{needs}
+use Rattle.machine.specs.Run.{stopNumber}
 use mathlib.Core.Path.{ap, refl}
 use native.Mathlib.Omega.{arith}
-use Rattle.mips86.specs.Numbers.{stopNumber}
 use Rattle.mips86.proofs.stop_number.Statement.{statement}
 use Rattle.mips86.proofs.stop_number.Tie as tie
 

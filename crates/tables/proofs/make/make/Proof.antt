@@ -1,8 +1,6 @@
-use Rattle.tables.proofs.Answers.{numbered}
 -- `tables::make::make` meets its contract, answer by answer.
 -- Assumes nothing.
 use borrow.Author.Needs.{needs}
-use mathlib.Core.Path.{refl}
 use native.Mathlib.Omega.{arith}
 use denote.Ref.{now}
 use lib.ListN.{length}
@@ -11,10 +9,10 @@ use Rattle.tables.proofs.make.make.Statement.{statement}
 use Rattle.tables.proofs.make.make.Tie as tie
 
 returns : tie.Need-returns
-returns c = (refuse-cores _ _ _ (c .if1 .taken), (numbered _ _ _ (refuse-cores _ _ _ (c .if1 .taken)), refl))
+returns c = (refuse-cores _ _ _ (c .if1 .taken), rw (← refuse-cores _ _ _ (c .if1 .taken)))
 
 returns-2 : tie.Need-returns-2
-returns-2 c = (refuse-memory _ _ _ (c .before .if1 .left) (c .if2 .taken), (numbered _ _ _ (refuse-memory _ _ _ (c .before .if1 .left) (c .if2 .taken)), refl))
+returns-2 c = (refuse-memory _ _ _ (c .before .if1 .left) (c .if2 .taken), rw (← refuse-memory _ _ _ (c .before .if1 .left) (c .if2 .taken)))
 
 mul-if3 : tie.Need-mul-if3
 mul-if3 c = search needs
@@ -23,7 +21,7 @@ add-if3 : tie.Need-add-if3
 add-if3 c = search needs
 
 returns-3 : tie.Need-returns-3
-returns-3 c = (refuse-length _ _ _ (c .before .before .if1 .left) (c .before .if2 .left) (c .if3 .taken), (numbered _ _ _ (refuse-length _ _ _ (c .before .before .if1 .left) (c .before .if2 .left) (c .if3 .taken)), refl))
+returns-3 c = (refuse-length _ _ _ (c .before .before .if1 .left) (c .before .if2 .left) (c .if3 .taken), rw (← refuse-length _ _ _ (c .before .before .if1 .left) (c .before .if2 .left) (c .if3 .taken)))
 
 cast-fill : tie.Need-cast-fill
 cast-fill c = omega (arith, few-pages (c .before .before .before .before .before .before .args .n) (length (now (c .before .before .before .before .before .before .args .memory))) (length (now (c .before .before .before .before .before .before .args .tables))) (c .before .before .before .if1 .left) (c .before .before .if2 .left))
@@ -35,7 +33,7 @@ same-length : tie.Need-same-length
 same-length c = search needs
 
 returns-4 : tie.Need-returns-4
-returns-4 c = (accept _ _ _ (c .before .before .before .before .before .before .if1 .left) (c .before .before .before .before .before .if2 .left) (c .before .before .before .before .if3 .left), (numbered _ _ _ (accept _ _ _ (c .before .before .before .before .before .before .if1 .left) (c .before .before .before .before .before .if2 .left) (c .before .before .before .before .if3 .left)), c .before .before .fill .ensures))
+returns-4 c = (accept _ _ _ (c .before .before .before .before .before .before .if1 .left) (c .before .before .before .before .before .if2 .left) (c .before .before .before .before .if3 .left), rw (← accept _ _ _ (c .before .before .before .before .before .before .if1 .left) (c .before .before .before .before .before .if2 .left) (c .before .before .before .before .if3 .left)) (c .before .before .fill .ensures))
 
 pub make-spec : {M : Type 1} → statement M
 make-spec =
