@@ -9,7 +9,7 @@ use native.Mathlib.Nat.{mod-eq-of-lt, pow-suc, one-le-pow, pow-le-pow-right}
 use native.Mathlib.Numerals.{add-one}
 use native.Mathlib.Omega.{arith}
 use lib.ListN.{length, take, drop, getD, set, length-append, length-set}
-use lib.Seq.{take-suc, take-suc-set, length-take-le, take-all}
+use lib.Seq.{take-suc, take-suc-set, length-take-le, take-all, drop-set-lt, drop-drop}
 use lib.Dec.{ltb}
 use borrow.Author.Tests.{lt-ltb, le-ltb}
 use Rattle.io.specs.Counts.{Counts}
@@ -19,7 +19,13 @@ use Rattle.word.proofs.Laws.{side}
 use Rattle.simulate.specs.Text.{Put, decimalIn, decimal}
 
 pub none : (b : List ℕ) (at : ℕ) → Put b at [] (at + 0) b
-none b at = record { place = refl; kept = refl; front = let e : at + 0 ≡ at = omega arith in rw e (sym (append-nil (take at b))) }
+none b at = record { place = refl; kept = refl; front = let e : at + 0 ≡ at = omega arith in rw e (sym (append-nil (take at b))); beyond = refl }
+
+-- what agrees from a place on agrees from any later one
+further : (c b : List ℕ) (r q : ℕ) → r ≤ q → drop r c ≡ drop r b → drop q c ≡ drop q b
+further c b r q h e =
+    let k : r + (q - r) ≡ q = omega arith in
+    ap (λ (n : ℕ). drop n c) (sym k) ∙ sym (drop-drop (q - r) r c) ∙ ap (drop (q - r)) e ∙ drop-drop (q - r) r b ∙ ap (λ (n : ℕ). drop n b) k
 
 -- the next byte of a text
 pub one-more :
@@ -32,6 +38,7 @@ one-more b at t i c p h k =
       front =
           let e : at + (i + 1) ≡ suc (at + i) = omega arith in
           rw (e, take-suc-set c (at + i) (getD t i 0) k, p .front, append-assoc, add-one i, take-suc t i 0 h);
+      beyond = drop-set-lt (at + (i + 1)) c (at + i) (getD t i 0) (omega arith) ∙ further c b (at + i) (at + (i + 1)) (omega arith) (p .beyond);
     }
 
 -- all bytes of a text
@@ -45,6 +52,7 @@ follow {b} {at} {x} {r} {c} {y} {q} {d} p s =
       place = omega (arith, length-append x y, p .place, s .place);
       kept = s .kept ∙ p .kept;
       front = s .front ∙ ap (λ (l : List ℕ). l ++ y) (p .front) ∙ append-assoc (take at b) x y;
+      beyond = s .beyond ∙ further c b r q (omega (arith, s .place)) (p .beyond);
     }
 
 -- the fewest digits of a number are its decimal text

@@ -4,7 +4,7 @@ use mathlib.Core.Path.{_≡_}
 use mathlib.Core.List.{List, [], _∷_, _++_}
 use Prim.Native.Nat.{ℕ, zero, suc, _+_, _/_, _%_, _≤_}
 use lib.Dec.{ltb}
-use lib.ListN.{length, take}
+use lib.ListN.{length, take, drop}
 use Rattle.io.specs.Digits.{glyph}
 use Rattle.word.specs.Word.{if_then_else_}
 use Rattle.steps.specs.declared.Answer.{Answer}
@@ -42,8 +42,9 @@ lineText place a = decimal place ++ (32 ∷ []) ++ answerText a ++ (10 ∷ [])
 unfoldable pub endText : ℕ → ℕ → List ℕ
 endText accepted refused = (101 ∷ 110 ∷ 100 ∷ 32 ∷ []) ++ decimal accepted ++ (32 ∷ []) ++ decimal refused ++ (10 ∷ [])
 
--- bytes b are c after a text was put at a place; r is the place after the text
+-- bytes b are c after a text was put at a place; r is the place after the text. What stands before and beyond it stays.
 pub record Put (b : List ℕ) (at : ℕ) (text : List ℕ) (r : ℕ) (c : List ℕ) : Type 0 where
   pub place : r ≡ at + length text
   pub kept : length c ≡ length b
   pub front : take r c ≡ take at b ++ text
+  pub beyond : drop r c ≡ drop r b
