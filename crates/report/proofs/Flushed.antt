@@ -12,7 +12,8 @@ use Rattle.records.specs.declared.Walk.{Walk}
 use Rattle.records.specs.declared.Flush.the-variants.{All, Page, Incomplete}
 use Rattle.records.specs.Records.{same, among, goes, staying}
 use Rattle.records.proofs.Counts.{and-left, and-right}
-use Rattle.tlb.specs.Walks.{walkVa, walkAsid, complete, keep, pageKey}
+use Rattle.tlb.specs.Walks.{walkVa, walkAsid, complete, pageKey}
+use Rattle.tlb.specs.inner.Flushes.{keep}
 use Rattle.tlb.proofs.Fields.{same-walk}
 use Rattle.tlb.proofs.Flushes.{flush-all, flush-page, flush-incomplete}
 use Rattle.report.specs.Components.{ΣTlb, δtlb}

@@ -12,7 +12,8 @@ use Rattle.records.specs.declared.Walk.{Walk}
 use Rattle.records.specs.declared.Flush.the-variants.{All, Page, Incomplete}
 use Rattle.records.specs.Records.{goes, staying}
 use Rattle.records.proofs.Counts.{and-left, and-right, and-both}
-use Rattle.tlb.specs.Walks.{walkVa, walkAsid, complete, keep, pageFlushed, incompleteFlushed, pageKey}
+use Rattle.tlb.specs.Walks.{walkVa, walkAsid, complete, pageKey}
+use Rattle.tlb.specs.inner.Flushes.{keep, pageFlushed, incompleteFlushed}
 
 -- a test that holds exactly if two numbers are equal
 test-eqb : (a b : ℕ) (t : Bool) → (a ≡ b → t ≡ true) → (t ≡ true → a ≡ b) → eqb a b ≡ t

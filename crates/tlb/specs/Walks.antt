@@ -1,7 +1,7 @@
 -- Walks, page table entries and translation requests (the report, section 5). A walk is its two words, an entry its word.
 -- Assumes nothing.
 use mathlib.Core.Bool.{Bool, _&&_, _||_, not}
-use mathlib.Core.List.{List, [], _∷_}
+use mathlib.Core.List.{List}
 use Prim.Native.Nat.{ℕ, _+_, _-_, _*_, _/_, _%_, _^_}
 use lib.ListN.{length}
 use lib.Dec.{eqb, leb}
@@ -135,18 +135,6 @@ faultBy t w e = if not (complete w) && hit t w then entryFault (t .r) e else Pas
 
 abbrev pub fault : List ℕ → Request → Walk → Faulting
 fault m t w = faultBy t w (pte m w)
-
--- ---- definition 20: the walks left by a flush of a page of an address space, and by a flush of incomplete walks
-
-unfoldable pub keep : (Walk → Bool) → List Walk → List Walk
-keep p [] = []
-keep p (w ∷ l) = if p w then w ∷ keep p l else keep p l
-
-abbrev pub pageFlushed : ℕ → ℕ → List Walk → List Walk
-pageFlushed asid va tlb = keep (λ w. not (eqb (walkAsid w) asid && eqb (walkVa w) va)) tlb
-
-abbrev pub incompleteFlushed : List Walk → List Walk
-incompleteFlushed tlb = keep complete tlb
 
 -- a page of an address space as one number, as a walk's first word has it above its low six bits
 abbrev pub pageKey : ℕ → ℕ → ℕ
