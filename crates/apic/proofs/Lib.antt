@@ -5,5 +5,4 @@ pub mod Words
 pub mod Events
 pub mod Registers
 pub mod Kept
-pub mod Ports
 pub mod Sendings

@@ -2,7 +2,7 @@
 -- Assumes nothing.
 use mathlib.Core.Bool.{Bool, _||_}
 use mathlib.Core.List.{List}
-use Prim.Native.Nat.{ℕ, zero, suc, _+_, _*_, _/_, _%_, _^_}
+use Prim.Native.Nat.{ℕ, zero, suc, _+_, _/_, _%_, _^_}
 use lib.ListN.{getD, set}
 use lib.Dec.{eqb}
 use Rattle.word.specs.Word.{if_then_else_}
@@ -16,10 +16,6 @@ use Rattle.apic.specs.Vectors.{bitAt, withVector, least, lowest, marked}
 
 abbrev pub portAt : ℕ → ℕ
 portAt a = ports + a / 4
-
--- apic.ports(x), the low byte of a word at its low place
-abbrev pub portByte : List ℕ → ℕ → ℕ
-portByte b x = getD b (portAt x) 0 / 2 ^ (8 * (x % 4)) % 2 ^ 8
 
 abbrev pub apicId : ℕ
 apicId = portAt 0

@@ -3,15 +3,15 @@
 -- The group's step is accepted and moves memory.
 -- Assumes nothing.
 use mathlib.Core.Path.{_≡_, refl, sym, ap, ap₂, subst, _∙_}
-use mathlib.Core.Logic.{_⊎_, inl, inr, ⊎-elim}
-use mathlib.Core.Bool.{Bool, true, false, _&&_, _||_, not}
+use mathlib.Core.Logic.{_⊎_, ⊎-elim}
+use mathlib.Core.Bool.{Bool, true, false, _&&_, not}
 use mathlib.Core.List.{List, [], _∷_, _++_, map, flatMap}
-use Prim.Native.Nat.{ℕ, zero, suc, _+_, _*_, _/_, _%_, _^_, _<_, _≤_}
+use Prim.Native.Nat.{ℕ, _+_, _*_, _/_, _%_, _^_, _<_, _≤_}
 use native.Mathlib.Omega.{arith}
 use lib.ListN.{length, getD, set, replicate, take, drop, length-replicate, getD-replicate, List·getD-eq-default}
-use lib.Dec.{T, eqb, ltb, leb}
-use borrow.Author.Tests.{ltb-true, ltb-false, lt-ltb, le-leb, lt-leb}
-use Rattle.word.specs.Word.{if_then_else_, isSet, flag}
+use lib.Dec.{eqb, ltb, leb}
+use borrow.Author.Tests.{ltb-true, ltb-false, lt-ltb}
+use Rattle.word.specs.Word.{if_then_else_}
 use Rattle.word.specs.Bytes.{bytesAt, put}
 use Rattle.layout.specs.Blocks.{block}
 use Rattle.records.specs.Records.{chain, count, each, all, stores, walks, among, differing, linked}
@@ -19,14 +19,12 @@ use Rattle.records.specs.Contents.{soundRecords, storeSound, walkSound}
 use Rattle.tables.specs.Make.{chained}
 use Rattle.tables.specs.Views.{coresOf, pagesOf}
 use Rattle.tables.specs.Sound.{soundWords, soundBlock, soundBlocks, soundHeader, sound}
-use Rattle.tlb.specs.declared.Entry.{Entry}
 use Rattle.tlb.specs.declared.Entry.the-variants.{Word, Missing}
 use Rattle.tlb.specs.Walks.{walkLevel, walkR, entryAt, pteaAt, complete}
 use Rattle.tlb.specs.Steps.{originOf}
 use Rattle.steps.specs.declared.Answer.the-variants.{Done}
-use Rattle.steps.specs.Form.{word}
 use Rattle.steps.specs.Form.{stepOf}
-use Rattle.store_buffer.specs.Leaving.{oldest, placeOf}
+use Rattle.store_buffer.specs.Leaving.{placeOf}
 use Rattle.cores.specs.declared.BufferChange.the-variants.{Take}
 use Rattle.cores.specs.declared.WalkChange.{WalkChange}
 use Rattle.cores.specs.declared.Write.the-variants.{Memory}
@@ -38,10 +36,10 @@ use Rattle.machine.proofs.Locality.{step-law}
 use Rattle.machine.proofs.Locality as plans
 use lib.Seq.{getD-set-same, getD-set-other}
 use Rattle.reach.specs.Lists.{range, has, select}
-use Rattle.reach.specs.Reach.{Pages, reached, isGroup, reach, firstPages, secondPages, dataPages, writablePages, named, namedBy, anyRights, grantsWrite, over, basesOf, storePages, inMemory, mapByte, mapFor, members}
+use Rattle.reach.specs.Reach.{Pages, reached, isGroup, reach, firstPages, secondPages, dataPages, writablePages, named, namedBy, anyRights, grantsWrite, over, basesOf, storePages, inMemory, mapFor, members}
 use Rattle.separation.specs.declared.Verdict.the-variants.{Yes}
 use Rattle.separation.specs.Apart.{disjoint, apart, pagesApart, apartOn, rest, running}
-use Rattle.separation.specs.Separation.{Machine, Given, start, next, called, isInterrupt, admitted, isOwn, Alike, Separated, reachable, seen}
+use Rattle.separation.specs.Separation.{Machine, Given, start, called, isInterrupt, admitted, Alike, Separated, reachable, seen}
 use Rattle.reach.proofs.Lists.{tested, In, map-same, in-cases, in-none}
 use Rattle.separation.proofs.Memory.{page, Same, bytes-same}
 use Rattle.records.proofs.Facts.{all-at}

@@ -18,7 +18,7 @@ use Rattle.word.proofs.Tests.{true-false}
 use Rattle.word.proofs.Words.{Words}
 use Rattle.layout.specs.Layout.{ioregsel, iowin, redirect}
 use Rattle.layout.specs.Blocks.{block}
-use Rattle.layout.proofs.Blocks.{with-same, with-long, with-block, with-other, with-outside, set-block}
+use Rattle.layout.proofs.Blocks.{with-long, with-block, with-other, with-outside, set-block}
 use Rattle.records.proofs.Counts.{and-left, and-right}
 use Rattle.tables.specs.Views.{coresOf}
 use Rattle.tables.specs.Sound.{sound}
@@ -140,16 +140,6 @@ memory-local (Memory a d v) m f e =
 memory-local (LocalPort a v) m f e = inl refl
 memory-local (IoPort a v) m f e = inl refl
 
--- the bytes outside the run stay
-put-outside : (d : ℕ) (m : List ℕ) (a v i : ℕ) → (i < a) ⊎ (a + d ≤ i) → getD (put d m a v) i 0 ≡ getD m i 0
-put-outside zero m a v i o = refl
-put-outside (suc d) m a v i o =
-    put-outside d (set m a (v % 256)) (a + 1) (v / 256) i (⊎-elim (λ p. inl (omega arith)) (λ p. inr (omega arith)) o)
-    ∙ getD-set-other m a i (v % 256) 0 (⊎-elim (λ p. omega arith) (λ p. omega arith) o)
-
-pub run-outside : {m m′ : List ℕ} (R : Run m m′) (i : ℕ) → (i < R .address) ⊎ (R .address + R .width ≤ i) → getD m′ i 0 ≡ getD m i 0
-run-outside {m} R i o = ap (λ (l : List ℕ). getD l i 0) (R .is-put) ∙ put-outside (R .width) m (R .address) (R .value) i o
-
 pub written-long : (x : Write) (m : List ℕ) → length (writtenTo x m) ≡ length m
 unfolding writtenTo
 written-long Write.Nothing m = refl
@@ -169,14 +159,6 @@ written-bytes (IoPort a v) m b = b
 -- the memory of sound tables is whole words
 pub whole-words : (t : List ℕ) (n : ℕ) → sound t n ≡ true → n % 4 ≡ 0
 whole-words t n e = omega (arith, bytes-divide t n e)
-
-refused-tables : (k j : ℕ) (t : List ℕ) → tablesByPlan k (refused j) t ≡ t
-unfolding tablesByPlan headerAfter blockAfter portAfter walksAfter bufferAfter coreAfter
-refused-tables k j t = with-same t k
-
-refused-memory : (j : ℕ) (m : List ℕ) → memoryByPlan (refused j) m ≡ m
-unfolding writtenTo
-refused-memory j m = refl
 
 module _ (t m : List ℕ) (k : ℕ) (p : Plan) (e : sound t (length m) ≡ true) (h : k < coresOf t) (D : MayBeDone (length m) (block t k) p) where
   pub plan-long : length (blockAfter p (block t k)) ≡ 256
@@ -203,7 +185,3 @@ module _ (t m : List ℕ) (k : ℕ) (p : Plan) (e : sound t (length m) ≡ true)
   -- one run of memory at most
   pub plan-memory : (memoryByPlan p m ≡ m) ⊎ Run m (memoryByPlan p m)
   plan-memory = memory-local (p .write) m (D .is-fitting) (D .is-aligned)
-
-  -- a refusal changes nothing
-  pub refused-still : (j : ℕ) → p .answer ≡ Refused j → (tablesByPlan k p t ≡ t) × (memoryByPlan p m ≡ m)
-  refused-still j a = let q = D .is-still j a in (ap (λ (r : Plan). tablesByPlan k r t) q ∙ refused-tables k j t, ap (λ (r : Plan). memoryByPlan r m) q ∙ refused-memory j m)

@@ -18,10 +18,6 @@ unfolding settle anyOf
 ask-fails r true j e = absurd (true-false e)
 ask-fails r false j e = refl
 
--- one guard after another
-pub ask-two : {A : Type 0} (r : ℕ → A) (g : Guard) (h : Guard) (j : Judged A) → settle r (ask (g ∷ h ∷ []) j) ≡ settle r (ask (g ∷ []) (ask (h ∷ []) j))
-ask-two r g h j = refl
-
 pub settle-yield : {A : Type 0} (r : ℕ → A) (x : A) → settle r (yield x) ≡ x
 unfolding settle anyOf
 settle-yield r x = refl

@@ -272,6 +272,3 @@ plan-shows n p b long e r s =
       stores-view = P .stores-view ∙ (W .stores-view ∙ (B .stores-view ∙ ap (storesAfter (p .buffer)) (C .stores-view)));
       walks-view = P .walks-view ∙ (W .walks-view ∙ ap (tlbAfter (p .walks)) (B .walks-view ∙ C .walks-view));
     }
-
-pub block-sound : (n : ℕ) (p : Plan) (b : List ℕ) → length b ≡ 256 → soundBlock n b ≡ true → ready p b ≡ true → planSound n p ≡ true → soundBlock n (blockAfter p b) ≡ true
-block-sound n p b long e r s = plan-shows n p b long e r s .sound

@@ -3,7 +3,7 @@
 use mathlib.Core.Path.{_≡_, refl, sym, ap, _∙_, subst}
 use mathlib.Core.Bool.{Bool, true, false}
 use mathlib.Core.List.{List}
-use mathlib.Core.Logic.{_⊎_, inr}
+use mathlib.Core.Logic.{inr}
 use Prim.Native.Nat.{ℕ, _+_, _*_, _<_}
 use native.Mathlib.Omega.{arith}
 use lib.ListN.{length, getD}
@@ -23,7 +23,7 @@ use Rattle.ioapic.specs.IoApic.{entry, dest, vect, acknowledged, eoiRece
 use Rattle.ioapic.specs.Bus.{broadcast, sendIpi, sendEoi, deliver}
 use Rattle.layout.proofs.Blocks.{Has}
 use Rattle.ioapic.proofs.Header.{Kept, kept-ended, kept-handed, ended-entry}
-use Rattle.ioapic.proofs.Blocks.{Sized, Wordly, block-agrees, onBlock-long, onBlock-same, onBlock-other, onBlock-header, onBlock-words, onBlocks-long, onBlocks-header, onBlocks-at, onBlocks-words}
+use Rattle.ioapic.proofs.Blocks.{Sized, Wordly, block-agrees, onBlock-long, onBlock-same, onBlock-other, onBlock-header, onBlock-words, onBlocks-header, onBlocks-at, onBlocks-words}
 
 -- a function that is kept to the local APIC's words keeps length and words
 abbrev Local : (List ℕ → List ℕ) → Type 0
@@ -66,10 +66,6 @@ module _ (n : ℕ) (t : List ℕ) (all : length t ≡ 32 + 256 * n) where
     unfolding idled
     idled-long = onBlock-long idle (sized idle kept-idle) t i (has i hi) ∙ all
 
-    pub ipi-long : length (sendIpi n i m t) ≡ length t
-    unfolding sendIpi broadcast idled
-    ipi-long = onBlocks-long f (λ j. sized (f j) (local-f j)) idled n idled-long n (omega arith) ∙ idled-long ∙ sym all
-
     pub ipi-header : (x : ℕ) → x < 32 → getD (sendIpi n i m t) x 0 ≡ getD t x 0
     unfolding sendIpi broadcast idled
     ipi-header x h =
@@ -103,20 +99,11 @@ module _ (n : ℕ) (t : List ℕ) (all : length t ≡ 32 + 256 * n) where
     unfolding sent
     sent-long = onBlock-long g (sized g local-g) t i (has i hi)
 
-    pub eoi-long : length (sendEoi i v t) ≡ length t
-    unfolding sendEoi sent
-    eoi-long = kept-ended sent v .long ∙ sent-long
-
     pub eoi-entry : (k : ℕ) → k < 24 → entry (sendEoi i v t) k ≡ acknowledged v (entry t k)
     unfolding sendEoi sent
     eoi-entry k h =
         ended-entry sent v k (omega (arith, sent-long)) h
         ∙ ap (acknowledged v) (onBlock-header g (sized g local-g) t i (has i hi) (redirect + k) (omega arith))
-
-    -- the header words that are no entries
-    pub eoi-header : (x : ℕ) → (x < 4) ⊎ (29 < x) → x < 32 → getD (sendEoi i v t) x 0 ≡ getD t x 0
-    unfolding sendEoi sent
-    eoi-header x o h = kept-ended sent v .same x o ∙ onBlock-header g (sized g local-g) t i (has i hi) x h
 
     pub eoi-block : (j : ℕ) → j < n → block (sendEoi i v t) j ≡ (if eqb j i then eoiSent (block t j) v else block t j)
     unfolding sendEoi sent
@@ -142,11 +129,6 @@ module _ (n : ℕ) (t : List ℕ) (all : length t ≡ 32 + 256 * n) where
 
     kept : Kept t (handed t k)
     kept = kept-handed t k hk
-
-    pub deliver-long : length (deliver n k t) ≡ length t
-    unfolding deliver
-    deliver-long =
-        onBlocks-long d (λ j. sized (d j) (local-d j)) (handed t k) n (kept .long ∙ all) n (omega arith) ∙ kept .long
 
     pub deliver-header : (x : ℕ) → x < 32 → getD (deliver n k t) x 0 ≡ getD (handed t k) x 0
     unfolding deliver

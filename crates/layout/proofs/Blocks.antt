@@ -5,8 +5,8 @@ use mathlib.Core.Logic.{_≢_, ⊎-elim, _⊎_, inl, inr}
 use Prim.Native.Nat.{ℕ, zero, suc, _+_, _-_, _*_, _<_, _≤_}
 use mathlib.Core.List.{List, _++_}
 use native.Mathlib.Omega.{arith}
-use lib.ListN.{length, getD, set, take, drop, length-append, length-take, length-drop, take-append-drop, List·getD-append}
-use lib.Seq.{ext-getD, getD-take, getD-drop, getD-append-add, length-take-le, take-at, drop-at, drop-set-lt, take-set-lt, set-append-left}
+use lib.ListN.{length, getD, set, take, drop, length-append, length-take, length-drop, List·getD-append}
+use lib.Seq.{ext-getD, getD-take, getD-drop, getD-append-add, length-take-le, take-at, drop-at, drop-set-lt}
 use Rattle.layout.specs.Blocks.{block, withBlock}
 
 -- core k has a block
@@ -24,12 +24,6 @@ block-long t k h = simp (length-take, length-drop) (omega arith)
 pub block-at : (t : List ℕ) (k i : ℕ) → i < 256 → getD (block t k) i 0 ≡ getD t (32 + 256 * k + i) 0
 unfolding block
 block-at t k i h = getD-take 256 (drop (32 + 256 * k) t) i 0 h ∙ getD-drop (32 + 256 * k) t i 0
-
--- the tables with the block that they have
-pub with-same : (t : List ℕ) (k : ℕ) → withBlock t k (block t k) ≡ t
-unfolding withBlock block
-with-same t k =
-    ap (λ (l : List ℕ). take (32 + 256 * k) t ++ l) (take-append-drop 256 (drop (32 + 256 * k) t)) ∙ take-append-drop (32 + 256 * k) t
 
 -- two tables with the same words at core k's places have the same block
 pub same-block : (s t : List ℕ) (k : ℕ) → length s ≡ length t → 32 + 256 * k + 256 ≤ length t → ((i : ℕ) → 32 + 256 * k ≤ i → i < 32 + 256 * k + 256 → getD s i 0 ≡ getD t i 0) → block s k ≡ block t k

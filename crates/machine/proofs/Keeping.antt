@@ -210,9 +210,6 @@ module _ (t : List ℕ) (n : ℕ) (e : sound t n ≡ true) where
           }
       go false = keeps-stays (keeps-all n t e)
 
-  pub counted-sound : sound (counted t) n ≡ true
-  counted-sound = counted-keeps .is-sound
-
 -- ---- memory keeps its length
 
 pub memory-long : (a : Action) (m : List ℕ) → length (memoryAfter a m) ≡ length m
@@ -257,11 +254,6 @@ module _ (t m : List ℕ) (e : sound t (length m) ≡ true) where
     pub decided-keeps : (s : List ℕ) → Keeps (length m) t (tablesAfter (decided t m s) t)
     decided-keeps s = action-keeps (decided t m s) (decided-able t m e ws bs s)
 
-    -- the action that is decided leaves sound tables beside the memory after it
-    pub action-sound : (s : List ℕ) → sound (tablesAfter (decided t m s) t) (length (memoryAfter (decided t m s) m)) ≡ true
-    action-sound s =
-        ap (λ (n : ℕ). sound (tablesAfter (decided t m s) t) n) (memory-long (decided t m s) m) ∙ decided-keeps s .is-sound
-
 -- ---- a step
 
 after-long : (r : Answer) (a : Action) (t m : List ℕ) → length (after r a t m .memory) ≡ length m
@@ -292,15 +284,6 @@ step-keeps t m s e ws bs =
 
 pub step-sound : (t m s : List ℕ) → sound t (length m) ≡ true → Words t → Bytes m → sound (step t m s .tables) (length (step t m s .memory)) ≡ true
 step-sound t m s e ws bs = ap (sound (step t m s .tables)) (step-long t m s) ∙ step-keeps t m s e ws bs .is-sound
-
--- the tables, sound or not
-pub step-tables-long : (t m s : List ℕ) → Words t → Bytes m → length (step t m s .tables) ≡ length t
-unfolding step
-step-tables-long t m s ws bs = go (sound t (length m)) refl
-  where
-    go : (b : Bool) → sound t (length m) ≡ b → length (step t m s .tables) ≡ length t
-    go true e = step-keeps t m s e ws bs .long
-    go false e = rw e refl
 
 -- ---- a refused step
 
@@ -346,6 +329,3 @@ refused-count t m s n = go (sound t (length m))
 pub refused-leaves : (t m s : List ℕ) (n : ℕ) → step t m s .answer ≡ answer.Refused n →
     (step t m s .memory ≡ m) × ((i : ℕ) → (i ≡ at.refusals → ⊥) → getD (step t m s .tables) i 0 ≡ getD t i 0)
 refused-leaves t m s n e = let R = refused-count t m s n e in (R .0, R .1 .same)
-
-pub refused-long : (t m s : List ℕ) (n : ℕ) → step t m s .answer ≡ answer.Refused n → length (step t m s .tables) ≡ length t
-refused-long t m s n e = refused-count t m s n e .1 .long

@@ -89,10 +89,6 @@ level-lt ca p q = lowest-lt 32 8 ca p q (omega arith)
 
 -- ---- a core's step: every plan that it can come to
 
-refused-known : (n : ℕ) → leb 5 n && leb n 10 ≡ true → known (refused n .answer) ≡ true
-unfolding known
-refused-known n e = e
-
 interrupt-known : (ca : ℕ) → 0 < ca → ca < 2 ^ 8 → known (Interrupt (il ca)) ≡ true
 unfolding known
 interrupt-known ca p q = lt-ltb (il ca) 8 (level-lt ca p q)

@@ -8,12 +8,12 @@ use mathlib.Core.List.{List, [], _∷_}
 use native.Mathlib.Omega.{arith}
 use lib.ListN.{length, getD}
 use lib.Dec.{eqb, ltb, leb}
-use borrow.Author.Tests.{eq-eqb, eqb-true, lt-ltb, ltb-true, le-leb, leb-true}
+use borrow.Author.Tests.{eqb-true, ltb-true, leb-true}
 use Rattle.records.specs.declared.Store.{Store}
 use Rattle.records.specs.declared.Walk.{Walk}
 use Rattle.records.specs.Records.{all, same, among, levelOf}
 use Rattle.records.specs.Contents.{allThere, storeSound, walkSound}
-use Rattle.records.proofs.Counts.{and-left, and-right, and-both}
+use Rattle.records.proofs.Counts.{and-left, and-right}
 
 -- what is said of every element holds of the one at a place
 pub all-at : {A : Type 0} (p : A → Bool) (l : List A) (i : ℕ) (d : A) → all p l ≡ true → i < length l → p (getD l i d) ≡ true
@@ -30,10 +30,6 @@ or-first : (p q : Bool) → p ≡ true → p || q ≡ true
 or-first true q e = refl
 or-first false q e = absurd (false≢true e)
 
-or-second : (p q : Bool) → q ≡ true → p || q ≡ true
-or-second true q e = refl
-or-second false q e = e
-
 -- two walks that are the same
 pub same-walk : (v w : Walk) → same v w ≡ true → v ≡ w
 same-walk v w e =
@@ -48,14 +44,6 @@ all-among p w [] e h = absurd (false≢true h)
 all-among p w (v ∷ l) e h =
     ⊎-elim (λ q. ap p (sym (same-walk v w q)) ∙ and-left (p v) (all p l) e) (λ q. all-among p w l (and-right (p v) (all p l) e) q)
     (or-cases (same v w) (among w l) h)
-
--- the walk at a place is held
-pub among-at : (l : List Walk) (i : ℕ) (d : Walk) → i < length l → among (getD l i d) l ≡ true
-unfolding among
-among-at [] i d h = absurd (omega arith)
-among-at (w ∷ l) zero d h =
-    or-first (same w w) (among w l) (and-both (eqb (w .first) (w .first)) _ (eq-eqb (w .first) (w .first) refl) (eq-eqb (w .second) (w .second) refl))
-among-at (w ∷ l) (suc i) d h = or-second (same w (getD l i d)) (among (getD l i d) l) (among-at l i d (omega arith))
 
 pub record StoreFacts (n : ℕ) (s : Store) : Type 0 where
   pub wide : (s .width ≡ 1) ⊎ ((s .width ≡ 2) ⊎ (s .width ≡ 4))

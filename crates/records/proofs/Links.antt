@@ -1,23 +1,17 @@
 -- Chains as lists of links: what the laws and the proofs speak of.
 use mathlib.Core.Path.{_≡_, refl, sym, ap, _∙_}
-use mathlib.Core.Logic.{_⊎_, ⊎-elim}
 use Prim.Native.Nat.{ℕ, zero, suc, _+_, _<_, _≤_}
 use mathlib.Core.List.{List, [], _∷_, _++_}
 use native.Mathlib.Omega.{arith}
 use lib.ListN.{length, getD}
 use Rattle.layout.specs.Layout.{recordAt}
 use Rattle.records.specs.Records.{chain, count, endOf}
-use Rattle.records.proofs.Counts.{count-head, count-more, count-cases, count-here, count-tail}
+use Rattle.records.proofs.Counts.{count-head, count-more, count-here, count-tail}
 
 -- from the word h the links spell the list l, and then comes zero
 abbrev pub Links : List ℕ → ℕ → List ℕ → Type 0
 Links b h [] = getD b h 0 ≡ 0
 Links b h (x ∷ l) = (getD b h 0 ≡ x) × (0 < x) × Links b (recordAt x) l
-
-pub links-pos : (b : List ℕ) (h : ℕ) (l : List ℕ) (n : ℕ) → Links b h l → 0 < count n l → 0 < n
-unfolding count
-links-pos b h [] n k p = absurd (omega arith)
-links-pos b h (x ∷ l) n k p = ⊎-elim (λ q. omega (arith, k .1)) (λ q. links-pos b (recordAt x) l n (k .2) q) (count-cases n x l p)
 
 -- the list is the chain
 pub links-chain : (k : ℕ) (b : List ℕ) (h : ℕ) (l : List ℕ) → Links b h l → length l < k → chain k b (getD b h 0) ≡ l

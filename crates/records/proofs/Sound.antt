@@ -9,7 +9,6 @@ use borrow.Author.Tests.{not-true}
 use Rattle.records.specs.declared.Store.{Store}
 use Rattle.records.specs.declared.Walk.{Walk}
 use Rattle.records.specs.declared.Flush.{Flush}
-use Rattle.records.specs.declared.Flush.the-variants.{All}
 use Rattle.records.specs.Records.{all, stores, walks, same, among, differing, goes, staying, withWalk, putStore, takeStore, addWalk, dropWalks}
 use Rattle.records.specs.Contents.{storeSound, walkSound, soundRecords}
 use Rattle.records.proofs.Counts.{and-left, and-right, and-both}
@@ -81,12 +80,6 @@ module _ (w : Walk) (l : List Walk) where
       go : (t : Bool) → among w l ≡ t → differing (elim t [ true ↦ l | false ↦ w ∷ l ]) ≡ true
       go true f = e
       go false f = ap (λ (s : Bool). not s && differing l) f ∙ e
-
--- all walks go
-pub staying-all : (l : List Walk) → staying (goes All) l ≡ []
-unfolding staying
-staying-all [] = refl
-staying-all (w ∷ l) = staying-all l
 
 -- ---- the operations
 

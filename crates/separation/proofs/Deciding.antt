@@ -1,29 +1,28 @@
 -- What the functions inside apart answer (specs/Sides), tied to Apart.
 -- Assumes nothing.
 use mathlib.Core.Path.{_≡_, refl, sym, ap, ap₂, subst, _∙_}
-use mathlib.Core.Logic.{_⊎_, inl, inr, ⊎-elim}
 use mathlib.Core.Bool.{Bool, true, false, _&&_, _||_, not}
 use mathlib.Core.List.{List, [], _∷_, _++_}
-use Prim.Native.Nat.{ℕ, zero, suc, _+_, _<_, _≤_}
+use Prim.Native.Nat.{ℕ, _+_, _<_, _≤_}
 use native.Mathlib.Numerals.{add-one}
 use native.Mathlib.Omega.{arith}
 use native.Mathlib.Decide.{ℕ-discrete}
 use mir.Val.{boolByte}
 use lib.ListN.{length, getD, take, replicate, length-replicate}
 use lib.Seq.{length-take-le}
-use lib.Dec.{eqb, ltb}
+use lib.Dec.{eqb}
 use borrow.Author.Tests.{not-true, not-false}
-use Rattle.word.specs.Word.{isSet, bit, flag, if_then_else_}
+use Rattle.word.specs.Word.{isSet, flag, if_then_else_}
 use Rattle.layout.specs.Blocks.{block}
 use Rattle.records.specs.Records.{all}
 use Rattle.tables.specs.Views.{coresOf, pagesOf}
 use Rattle.tables.specs.Sound.{sound}
-use Rattle.tlb.specs.Steps.{userMode, runs}
+use Rattle.tlb.specs.Steps.{runs}
 use Rattle.apic.specs.Vectors.{withBit}
 use Rattle.apic.proofs.Bits.{bit-same, bit-other}
 use Rattle.reach.specs.Lists.{range, has, select}
 use Rattle.reach.specs.Reach.{Pages, isGroup, members, tablePages, reached, reach, inMemory, mapByte, mapFor}
-use Rattle.reach.proofs.Lists.{tested, decided, clash, and-left, and-right, and-both, or-cases, In, in-left, in-right, in-append, in-range, range-in, all-in, in-all, all-append, both-ways, has-append, select-same, select-append}
+use Rattle.reach.proofs.Lists.{tested, decided, clash, and-left, and-right, and-both, In, in-right, in-range, range-in, all-in, in-all, all-append, both-ways, has-append, select-same}
 use Rattle.separation.specs.Apart.{running, rest, runsAsUser, disjoint, closed, pagesApart, apart, apartOn}
 use Rattle.separation.specs.declared.Verdict.the-variants.{Yes, No, Refused}
 use Rattle.separation.specs.inner.Sides.{passes, both, pageApart}
@@ -175,9 +174,6 @@ disjoint-below n l r low =
 
 -- the two sides, whose pages are below n
 module _ (n : ℕ) (S T : Pages) (e : inMemory S n ≡ true) (f : inMemory T n ≡ true) where
-  table-in : (U : Pages) (x : ℕ) → In x (tablePages U) → In x (reached U)
-  table-in U x h = in-left x (tablePages U) (U .datas ++ U .writables) h
-
   writable-in : (U : Pages) (x : ℕ) → In x (U .writables) → In x (reached U)
   writable-in U x h = in-right x (tablePages U) (U .datas ++ U .writables) (in-right x (U .datas) (U .writables) h)
 

@@ -1,19 +1,17 @@
 -- The facts about one step of kind 0 to 4 of a core whose block is good for the pages S of its side.
 -- Assumes nothing.
-use mathlib.Core.Path.{_≡_, refl, sym, ap, ap₂, subst, _∙_}
-use mathlib.Core.Bool.{Bool, true, false}
-use mathlib.Core.List.{List, [], _∷_, _++_}
-use Prim.Native.Nat.{ℕ, _+_, _^_, _<_}
-use lib.ListN.{length, getD}
-use Rattle.word.specs.Bytes.{put}
+use mathlib.Core.Path.{_≡_, sym, ap, ap₂, subst, _∙_}
+use mathlib.Core.Bool.{true, false}
+use mathlib.Core.List.{List, [], _∷_}
+use Prim.Native.Nat.{ℕ, _<_}
+use lib.ListN.{length}
 use Rattle.word.proofs.Bytes.{Bytes}
-use Rattle.layout.specs.Layout as at
 use Rattle.layout.specs.Blocks.{block}
 use Rattle.records.specs.declared.Walk.{Walk}
 use Rattle.records.specs.declared.Store.{Store}
 use Rattle.records.specs.Records.{stores, walks, goes}
 use Rattle.isa.specs.declared.registers.Registers.{Registers}
-use Rattle.tables.specs.Views.{coresOf, ioregselOf, iowinOf, registersOf}
+use Rattle.tables.specs.Views.{coresOf, ioregselOf, iowinOf}
 use Rattle.tables.specs.Sound.{sound}
 use Rattle.tables.proofs.Lift.{core-long, core-sound}
 use Rattle.steps.specs.Form.{word}
@@ -26,10 +24,10 @@ use Rattle.cores.specs.declared.Write.{Write}
 use Rattle.cores.specs.declared.Write.the-variants.{Memory, LocalPort, IoPort}
 use Rattle.cores.specs.declared.Plan.{Plan}
 use Rattle.cores.specs.Commit.{writtenTo, blockAfter, memoryByPlan}
-use Rattle.cores.proofs.Sounds.{Shows, plan-shows, storesAfter, tlbAfter, registersAfter}
+use Rattle.cores.proofs.Sounds.{plan-shows, storesAfter, tlbAfter}
 use Rattle.reach.specs.Reach.{Pages, tablePages, reached}
 use Rattle.separation.specs.Separation.{isInterrupt}
-use Rattle.reach.proofs.Lists.{In, Each, each-append}
+use Rattle.reach.proofs.Lists.{Each, each-append}
 use Rattle.separation.proofs.Memory.{Agree, Kept, put-same, put-bytes}
 use Rattle.separation.proofs.Good.{WalkOk, StoreOk, Good, Closed, Low, good-after, each-with, each-staying, each-drop}
 use Rattle.machine.proofs.Locality.{Plain, planOf, formOf, Law, plan-done, step-law}

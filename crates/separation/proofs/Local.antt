@@ -1,20 +1,19 @@
 -- Locality: from two memories that agree on the pages that the core's side reaches a step makes the same plan.
 -- Assumes nothing.
 use mathlib.Core.Path.{_≡_, refl, sym, ap, ap₂, subst, _∙_}
-use mathlib.Core.Logic.{_⊎_, inl, inr, ⊎-elim, _≢_}
+use mathlib.Core.Logic.{_⊎_, ⊎-elim, _≢_}
 use mathlib.Core.Bool.{Bool, true, false, _&&_, _||_, not, false≢true}
-use mathlib.Core.List.{List, [], _∷_, _++_, map}
+use mathlib.Core.List.{List, [], _∷_}
 use Prim.Native.Nat.{ℕ, zero, suc, _+_, _-_, _*_, _/_, _%_, _^_, _<_, _≤_}
 use native.Mathlib.Omega.{arith}
 use lib.ListN.{length, getD}
-use lib.Dec.{eqb, ltb, leb}
-use borrow.Author.Tests.{eqb-true, leb-true, ltb-true, eq-eqb, not-true, not-false}
+use lib.Dec.{eqb, leb}
+use borrow.Author.Tests.{eqb-true}
 use Rattle.word.specs.Word.{if_then_else_, plus}
 use Rattle.layout.specs.Layout as at
 use Rattle.decode.specs.declared.Instruction.{Instruction}
 use Rattle.decode.specs.Table.{decoded}
 use Rattle.decode.specs.Mnemonics.{load, store}
-use Rattle.isa.specs.declared.registers.Registers.{Registers}
 use Rattle.isa.specs.Core.{ea, d, sprAt}
 use Rattle.isa.specs.Interrupts.{user}
 use Rattle.records.specs.declared.Walk.{Walk}
@@ -23,13 +22,10 @@ use Rattle.records.specs.Records.{stores, walks, among}
 use Rattle.records.specs.Contents.{localPort, ioPort, allThere}
 use Rattle.tables.specs.Views.{registersOf}
 use Rattle.tlb.specs.declared.Request.{Request}
-use Rattle.tlb.specs.declared.Entry.{Entry}
 use Rattle.tlb.specs.declared.Faulting.{Faulting}
 use Rattle.tlb.specs.declared.Faulting.the-variants.{Faults, Passes, Undecided}
 use Rattle.tlb.specs.Walks.{walkLevel, walkR, walkBa, complete, hit, pte, ptea, fault, faultBy}
 use Rattle.tlb.specs.Steps.{userMode, runs, asidOf, extendable, tlbExtend, tlbAccessed, onExtend, onAccessed, extendOn, accessedOn}
-use Rattle.tlb.specs.declared.Decision.{Decision}
-use Rattle.tlb.specs.declared.Decision.the-variants as decision
 use Rattle.tlb.proofs.Fields.{incomplete-level}
 use Rattle.tlb.proofs.Steps.{is-held, is-incomplete}
 use Rattle.store_buffer.specs.declared.Read.{Read}
@@ -38,27 +34,21 @@ use Rattle.store_buffer.specs.declared.Loaded.{Loaded}
 use Rattle.store_buffer.specs.declared.Loaded.the-variants as load-variants
 use Rattle.store_buffer.specs.declared.Loaded.the-variants.{Value, Hazard}
 use Rattle.steps.specs.declared.Step.{Step}
-use Rattle.store_buffer.specs.declared.Oldest.the-variants.{Empty, Leaves}
-use Rattle.store_buffer.specs.declared.Place.{Place}
 use Rattle.store_buffer.specs.Buffer.{sbhit, sbv, maxsbhit, sbhazard}
-use Rattle.store_buffer.specs.Leaving.{oldest, placeOf}
+use Rattle.store_buffer.specs.Leaving.{placeOf}
 use Rattle.store_buffer.specs.System.{Ports, isPort, sized, aligned, memoryByte, beneath, msOf, ms, join, reads, onRead, loaded}
-use Rattle.cores.specs.Guards.{Judged, yield, ask, test}
-use Rattle.cores.specs.Core as core
-use Rattle.cores.specs.Core.{View, viewOf, isEvent, causes, suppressed, stopped, causesWithout, walkGuard, faultOf, completeGuard, physical, onLoad, onStore, onCas, storedFrom, performed, unlessSuppressed, isAccess, avoidsPorts, hasHazard, onAddress, onData, onAccess, onInstruction, findsBuffer, dataRequestOf, fetchRequestOf, onWord, onFetchAddress, onFetch, fetch, judged, corePlan, isFree, withoutAccess}
-use Rattle.cores.specs.declared.Plan.{Plan}
-use Rattle.cores.specs.declared.WalkChange.{WalkChange}
+use Rattle.cores.specs.Guards.{yield, test}
+use Rattle.cores.specs.Core.{View, viewOf, isEvent, causes, suppressed, faultOf, physical, onLoad, onStore, onCas, storedFrom, performed, isAccess, avoidsPorts, hasHazard, onAddress, onData, onAccess, onInstruction, findsBuffer, dataRequestOf, fetchRequestOf, onWord, onFetchAddress, onFetch, fetch, judged, corePlan, isFree, withoutAccess}
 use Rattle.cores.specs.Plans.{refused}
 use Rattle.cores.specs.Walks.{planned}
-use Rattle.cores.specs.Buffer.{leavesTo, onOldest, bufferStep}
+use Rattle.cores.specs.Buffer.{onOldest, bufferStep}
 use Rattle.cores.proofs.Accesses.{access-aligned, cas-width, word-aligned}
-use Rattle.cores.proofs.Held.{same-offset}
-use Rattle.reach.specs.Reach.{Pages, tablePages, reached, grantsWrite}
-use Rattle.reach.proofs.Lists.{tested, clash, and-left, and-right, or-cases, if-same, In, Each}
+use Rattle.reach.specs.Reach.{Pages, reached, grantsWrite}
+use Rattle.reach.proofs.Lists.{tested, and-left, and-right, or-cases, if-same, In, Each}
 use Rattle.separation.proofs.Memory as memory
 use Rattle.separation.proofs.Memory.{page, Agree, Fits, inside-same, all-pages, entryAt-same}
-use Rattle.separation.proofs.Good.{AtLevel, WalkOk, StoreOk, Good, Closed, Low, low-local, low-io, among-each, table-reached, data-reached, writable-reached, walk-table, walk-page, walk-fits, spr-word}
-use Rattle.cores.proofs.Asked.{Same, same-refl, same-yield, same-ask, same-test, same-if, settle-same, first-met}
+use Rattle.separation.proofs.Good.{AtLevel, WalkOk, StoreOk, Good, Low, low-local, low-io, among-each, table-reached, data-reached, writable-reached, walk-table, walk-page, walk-fits, spr-word}
+use Rattle.cores.proofs.Asked.{Same, same-refl, same-yield, same-ask, same-test, same-if, settle-same}
 use Rattle.machine.proofs.Locality as plans
 use Rattle.machine.proofs.Locality.{Plain, planOf}
 

@@ -2,18 +2,17 @@
 -- Assumes nothing.
 use mathlib.Core.Path.{_≡_, refl, sym, ap, subst, _∙_}
 use mathlib.Core.Bool.{Bool, true, false, _&&_}
-use mathlib.Core.List.{List, [], _∷_, map}
+use mathlib.Core.List.{List, [], _∷_}
 use Prim.Native.Nat.{ℕ, _≤_, _<_}
 use native.Mathlib.Omega.{arith}
 use lib.ListN.{take}
 use Rattle.word.specs.Word.{if_then_else_, isSet}
 use Rattle.layout.specs.Blocks.{block}
 use Rattle.tables.specs.Views.{coresOf, pagesOf}
-use Rattle.steps.specs.declared.Answer.{Answer}
 use Rattle.reach.specs.Lists.{range, has, select}
 use Rattle.reach.specs.Reach.{Pages, reached, reach, inMemory, members}
 use Rattle.separation.specs.declared.Verdict.the-variants.{Yes}
-use Rattle.separation.specs.Separation.{Machine, Given, verdict, Point, View, start, called, next, afterCalls, may, admitted, isOwn, pageOf, seen, observed, observes, group, others, reachable, Alike, Framed, Demand3}
+use Rattle.separation.specs.Separation.{Machine, Given, verdict, Point, View, start, called, next, afterCalls, may, admitted, isOwn, pageOf, seen, observed, observes, group, reachable, Alike, Framed, Demand3}
 use Rattle.reach.proofs.Lists.{tested, In, in-range, in-select, select-in, same-map}
 use Rattle.separation.proofs.TwoLists.{trace, allowed, two-lists, kept-after}
 use Rattle.separation.proofs.TwoLists as lists

@@ -3,7 +3,6 @@
 use mathlib.Core.Path.{_≡_, sym, ap}
 use mathlib.Core.List.{List}
 use Prim.Native.Nat.{ℕ}
-use Rattle.steps.specs.declared.Step.{Step}
 use Rattle.steps.specs.Form.{stepOfCore, stepOfLine}
 
 pub by-kind : (k : ℕ) (s : List ℕ) {i j : ℕ} → i ≡ j → stepOfCore j k s ≡ stepOfCore i k s

@@ -1,7 +1,7 @@
 -- What a step is (01, 'A step is six words'): kind, core or line, and four more. Words that a kind does not name are zero; a walk's words are not judged.
 -- Assumes nothing.
-use mathlib.Core.Bool.{Bool, true, false, _&&_}
-use mathlib.Core.List.{List, [], _∷_}
+use mathlib.Core.Bool.{Bool, _&&_}
+use mathlib.Core.List.{List}
 use Prim.Native.Nat.{ℕ, _+_, _^_}
 use lib.Dec.{eqb, ltb}
 use lib.ListN.{length, getD}

@@ -4,7 +4,7 @@ use mathlib.Core.Path.{_≡_, refl, sym, ap, _∙_}
 use mathlib.Core.Logic.{_⊎_, inl, inr, ⊎-elim}
 use Prim.Native.Nat.{ℕ, zero, suc, _+_, _<_, _≤_}
 use mathlib.Core.Bool.{Bool, true, false, _||_, not, false≢true}
-use mathlib.Core.List.{List, [], _∷_, _++_}
+use mathlib.Core.List.{List, [], _∷_}
 use native.Mathlib.Omega.{arith}
 use lib.ListN.{length, getD}
 use borrow.Author.Tests.{not-false, eqb-true}
@@ -107,17 +107,6 @@ one-hits sb x p e = go (sbhit sb x) refl
     go : (t : Bool) → sbhit sb x ≡ t → t ≡ true
     go true f = refl
     go false f = at-miss p (sym (newest-none sb x f) ∙ e)
-
--- a store that enters is the newest of the bytes that it writes
-from-put : (sb : List Store) (i : ℕ) (h : Hit) (s : Store) (x : ℕ) → newestFrom i h (sb ++ (s ∷ [])) x ≡ (if sbehit s x then At (i + length sb) else newestFrom i h sb x)
-unfolding newestFrom
-from-put [] i h s x = let e : i ≡ i + 0 = omega arith in ap (λ (k : ℕ). if sbehit s x then At k else h) e
-from-put (t ∷ sb) i h s x =
-    let e : i + 1 + length sb ≡ i + suc (length sb) = omega arith in
-    from-put sb (i + 1) (if sbehit t x then At i else h) s x ∙ ap (λ (k : ℕ). if sbehit s x then At k else newestFrom (i + 1) (if sbehit t x then At i else h) sb x) e
-
-pub newest-put : (sb : List Store) (s : Store) (x : ℕ) → maxsbhit (sb ++ (s ∷ [])) x ≡ (if sbehit s x then At (length sb) else maxsbhit sb x)
-newest-put sb s x = let e : 0 + length sb ≡ length sb = omega arith in from-put sb 0 Miss s x ∙ ap (λ (k : ℕ). if sbehit s x then At k else maxsbhit sb x) e
 
 -- ---- without a hazard all bytes have the same newest hit
 

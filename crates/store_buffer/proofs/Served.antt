@@ -2,7 +2,7 @@
 -- Assumes nothing.
 use mathlib.Core.Path.{_≡_, refl, sym, ap, _∙_}
 use Prim.Native.Nat.{ℕ, zero, suc, _+_, _-_, _*_, _/_, _%_, _^_, _<_, _≤_}
-use mathlib.Core.Bool.{Bool, true, false, false≢true}
+use mathlib.Core.Bool.{Bool, true, false}
 use mathlib.Core.List.{List, [], _∷_}
 use native.Mathlib.Omega.{arith}
 use lib.ListN.{length, getD}
@@ -20,7 +20,7 @@ use Rattle.records.proofs.Contents.{parts-of}
 use Rattle.store_buffer.specs.declared.Hit.{Hit}
 use Rattle.store_buffer.specs.declared.Hit.the-variants.{At, Miss}
 use Rattle.store_buffer.specs.declared.Read.{Read}
-use Rattle.store_buffer.specs.declared.Read.the-variants.{There, Nowhere}
+use Rattle.store_buffer.specs.declared.Read.the-variants.{There}
 use Rattle.store_buffer.specs.declared.Source.the-variants.{Nothing, One, Mixed}
 use Rattle.store_buffer.specs.declared.Loaded.the-variants.{Value, Hazard}
 use Rattle.store_buffer.specs.Buffer.{sbehit, sbhit, sbv, maxsbhit, some, sbhazard}
@@ -87,7 +87,7 @@ module _ (sb : List Store) (p : Ports) (m : List ℕ) (a d : ℕ) (low : a < 2 ^
           let q : a + j - s .address ≡ a - s .address + j = omega (arith, served-from .0) in
           ms-hit sb p m (a + j) i (alike j h ∙ e) ∙ ap (λ (k : ℕ). There (byte k (s .value))) q)
 
--- ---- what one pass found, and the load
+-- ---- what one pass finds, and the load
 
 all-at : {A : Type 0} (q : A → Bool) (l : List A) (i : ℕ) (e : A) → all q l ≡ true → i < length l → q (getD l i e) ≡ true
 unfolding all
@@ -175,13 +175,3 @@ module _ (b : List ℕ) (a d : ℕ) where
           let r : v ≡ getD (stores b) i noStore .value / 256 ^ (a - getD (stores b) i noStore .address) % 256 ^ d =
           f ∙ ap (λ (k : ℕ). storeIn b n .value / 256 ^ k % 256 ^ d) offset ∙ ap (λ (t : Store). t .value / 256 ^ (a - getD (stores b) i noStore .address) % 256 ^ d) (sym held) in
           rw (s .0, s .1, served-by-one (stores b) p m a d low w (s .0) i (s .1) in-word in-range, ← r)
-
--- the place that a load names is that of a pending store
-pub load-place : (sb : List Store) (p : Ports) (m : List ℕ) (a d v i : ℕ) → loaded sb p m a d ≡ Value v (At i) → i < length sb
-unfolding loaded
-load-place sb p m a d v i e = newest-law sb a i (go (sbhazard sb a d) (maxsbhit sb a) (reads d (ms sb p m) a) e) .below
-  where
-    go : (t : Bool) (h : Hit) (r : Read) → (if t then Hazard else onRead h r) ≡ Value v (At i) → h ≡ At i
-    go true h r f = let z : _≡_ {A = ℕ} 0 1 = cc in absurd (omega arith)
-    go false h (There u) f = cc
-    go false h Nowhere f = let z : _≡_ {A = ℕ} 0 1 = cc in absurd (omega arith)

@@ -5,8 +5,8 @@ use Prim.Native.Nat.{ℕ, _+_, _-_, _≤_}
 use mathlib.Core.Bool.{true}
 use mathlib.Core.List.{List, [], _∷_, _++_}
 use native.Mathlib.Omega.{arith}
-use lib.ListN.{length, getD, take, drop, length-append, length-take, length-drop, take-append-drop, List·getD-append}
-use lib.Seq.{getD-append-add, getD-drop, getD-take, take-at, drop-at, drop-cons, drop-drop}
+use lib.ListN.{length, getD, take, drop, length-append, length-take, length-drop, List·getD-append}
+use lib.Seq.{getD-append-add, getD-drop, getD-take, take-at, drop-at}
 use Rattle.layout.specs.Layout as at
 use Rattle.isa.specs.declared.registers.Registers.{Registers}
 use Rattle.records.specs.Records.{stores, walks}
@@ -14,7 +14,7 @@ use Rattle.records.proofs.Frame.{Alike, same-stores, same-walks, same-sound}
 use Rattle.tables.specs.Views.{registersOf, withRegisters}
 use Rattle.tables.specs.Sound.{soundBlock}
 use Rattle.tables.proofs.Parts.{words-of, records-of, of-parts}
-use Rattle.tables.proofs.Places.{words-facts, facts-words, run-same}
+use Rattle.tables.proofs.Places.{words-facts, facts-words}
 
 -- the registers of a block are 32 of each kind
 module _ (b : List ℕ) (long : length b ≡ 256) where
@@ -74,10 +74,6 @@ module _ (b : List ℕ) (r : Registers) (long : length b ≡ 256) (g : length (r
 
   pub put-walks : walks (withRegisters b r) ≡ walks b
   put-walks = same-walks put-alike
-
-  -- a run of words above the registers
-  pub put-run : (i k : ℕ) → at.running ≤ i → take k (drop i (withRegisters b r)) ≡ take k (drop i b)
-  put-run i k h = run-same b (withRegisters b r) i k (put-long ∙ sym long) (λ j p q. put-above j (omega arith))
 
   pub put-sound : (n : ℕ) → soundBlock n b ≡ true → getD (r .gpr) 0 0 ≡ 0 → soundBlock n (withRegisters b r) ≡ true
   put-sound n e z =

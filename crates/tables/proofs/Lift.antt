@@ -13,10 +13,9 @@ use lib.Dec.{eqb}
 use Rattle.layout.specs.Layout as at
 use Rattle.records.proofs.Counts.{either}
 use Rattle.layout.specs.Blocks.{block, withBlock}
-use Rattle.tables.specs.Views.{coresOf, pagesOf, linesOf, redirectOf}
+use Rattle.tables.specs.Views.{coresOf, pagesOf, linesOf}
 use Rattle.tables.specs.Sound.{soundBlock, sound}
 use Rattle.layout.proofs.Blocks.{block-long, with-long, with-block, with-other, with-header, set-block}
-use Rattle.tables.proofs.Places.{run-same}
 use Rattle.tables.proofs.Parts.{Header, header-of, of-header, blocks-elim, blocks-intro, sound-header, sound-blocks, of-sound}
 
 -- ---- what sound tables have
@@ -37,10 +36,6 @@ module _ (t : List ℕ) (n : ℕ) (e : sound t n ≡ true) where
 
   pub bytes-divide : n ≡ 4096 * pagesOf t
   bytes-divide = header .bytes
-
--- the redirect entries of tables with another block
-pub with-redirect : (t : List ℕ) (k : ℕ) (b : List ℕ) → 32 + 256 * k + 256 ≤ length t → length b ≡ 256 → redirectOf (withBlock t k b) ≡ redirectOf t
-with-redirect t k b fits long = run-same t (withBlock t k b) at.redirect 24 (with-long t k b fits long) (λ j p q. with-header t k b fits long j (omega arith))
 
 -- ---- what leaves them sound
 

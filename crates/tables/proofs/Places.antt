@@ -108,18 +108,6 @@ any-allowed i v (inl p) =
 any-allowed i v (inr p) =
     record { low = omega arith; no-head = inr (omega arith); zero-register = λ e. omega arith; gap = λ e. omega arith; rest = λ e. omega arith; running = λ e. omega arith; sipirr = λ e. omega arith; initrr = λ e. omega arith; vector = λ e. omega arith }
 
--- a flag
-pub flag-allowed : (i v : ℕ) → (i ≡ at.running) ⊎ ((i ≡ at.sipirr) ⊎ (i ≡ at.initrr)) → v ≤ 1 → Allowed i v
-flag-allowed i v p f = ⊎-elim (λ q. at-flag i v (inl (omega arith)) (omega arith) f) (λ q. ⊎-elim (λ r. at-flag i v (inr (omega arith)) (omega arith) f) (λ r. at-flag i v (inr (omega arith)) (omega arith) f) q) p
-  where
-    at-flag : (i v : ℕ) → (i < 68) ⊎ (70 < i) → (i ≢ 0) × (i ≢ 71) × (i < 115) × (i ≢ 113) → v ≤ 1 → Allowed i v
-    at-flag i v h q f =
-        record { low = omega arith; no-head = h; zero-register = λ e. absurd (q .0 e); gap = λ e. absurd (q .1 e); rest = λ e. omega arith; running = λ e. f; sipirr = λ e. f; initrr = λ e. f; vector = λ e. omega arith }
-
-pub vector-allowed : (v : ℕ) → v < 256 → Allowed at.sipivect v
-vector-allowed v f =
-    record { low = omega arith; no-head = inr (omega arith); zero-register = λ e. omega arith; gap = λ e. omega arith; rest = λ e. omega arith; running = λ e. omega arith; sipirr = λ e. omega arith; initrr = λ e. omega arith; vector = λ e. f }
-
 module _ (b : List ℕ) (i v : ℕ) (A : Allowed i v) where
   pub set-same : Alike b (set b i v)
   set-same =

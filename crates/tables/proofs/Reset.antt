@@ -3,7 +3,7 @@
 use mathlib.Core.Path.{_≡_, refl, sym, ap, _∙_}
 use Prim.Native.Nat.{ℕ, zero, suc, _+_, _*_, _/_, _%_, _<_, _≤_}
 use mathlib.Core.Bool.{Bool, true, false}
-use mathlib.Core.List.{List, [], _∷_}
+use mathlib.Core.List.{[], _∷_}
 use native.Mathlib.Omega.{arith}
 use native.Mathlib.Decide.{ℕ-discrete}
 use lib.ListN.{length, take, drop, replicate, length-append, length-drop}
@@ -11,14 +11,13 @@ use lib.Seq.{drop-at, take-all, take-append-le, drop-append-le, drop-append-add}
 use lib.Dec.{eqb, leb}
 use borrow.Author.Tests.{eqb-true, leb-true}
 use Rattle.layout.specs.Layout as at
-use Rattle.records.specs.Records.{freeNumbers, chain, count, each, all, stores, walks, among, differing, linked}
+use Rattle.records.specs.Records.{chain, count, each, all, stores, walks, among, differing, linked}
 use Rattle.records.specs.Contents.{soundRecords, storeSound, walkSound}
 use Rattle.records.proofs.Counts.{either, and-left, and-right}
-use Rattle.tables.specs.declared.make.Made.the-variants.{Done, Cores, Memory, Length}
 use Rattle.layout.specs.Blocks.{block}
-use Rattle.tables.specs.Views.{registersOf, runningOf, portByte}
+use Rattle.tables.specs.Views.{registersOf, runningOf}
 use Rattle.tables.specs.Sound.{upTo, soundWords, soundBlock, sound}
-use Rattle.tables.specs.Make.{chained, madeRunning, madeBlock, madeBlocks, made, wholePages, answer, numberOf}
+use Rattle.tables.specs.Make.{chained, madeRunning, madeBlock, madeBlocks, made, wholePages, refusal}
 use Rattle.tables.proofs.Fresh.{block-long, blocks-long}
 use Rattle.tables.proofs.Parts.{of-header, blocks-intro, of-sound}
 
@@ -74,31 +73,17 @@ module _ (k : ℕ) where
   unfolding madeBlock chained
   made-running = refl
 
-  -- the APIC's ID in port byte 3
-  pub made-id : k < 256 → portByte (madeBlock k) 3 ≡ k
-  unfolding madeBlock chained
-  made-id h = omega arith
-
--- all 31 records are free, in rising order
-abbrev pub rising : ℕ → ℕ → List ℕ
-rising zero n = []
-rising (suc d) n = n ∷ rising d (suc n)
-
-pub made-free : (k : ℕ) → freeNumbers (madeBlock k) ≡ rising 31 1
-unfolding madeBlock chained chain
-made-free k = refl
-
 -- ---- an accepted call
 
-tests-of : (p q r : Bool) → elim p [ false ↦ Cores | true ↦ elim q [ false ↦ Memory | true ↦ elim r [ false ↦ Length | true ↦ Done ] ] ] ≡ Done → (p ≡ true) × (q ≡ true) × (r ≡ true)
+tests-of : (p q r : Bool) → _≡_ {A = ℕ} (elim p [ false ↦ 1 | true ↦ elim q [ false ↦ 2 | true ↦ elim r [ false ↦ 3 | true ↦ 0 ] ] ]) 0 → (p ≡ true) × (q ≡ true) × (r ≡ true)
 tests-of true true true e = (refl, refl, refl)
-tests-of true true false e = absurd (omega (arith, ap numberOf e))
-tests-of true false r e = absurd (omega (arith, ap numberOf e))
-tests-of false q r e = absurd (omega (arith, ap numberOf e))
+tests-of true true false e = absurd (omega arith)
+tests-of true false r e = absurd (omega arith)
+tests-of false q r e = absurd (omega arith)
 
 -- leaves sound tables
-pub make-sound : (n m l : ℕ) → answer n m l ≡ Done → sound (made n (m / 4096)) m ≡ true
-unfolding answer
+pub make-sound : (n m l : ℕ) → refusal n m l ≡ 0 → sound (made n (m / 4096)) m ≡ true
+unfolding refusal
 make-sound n m l e =
     let p = tests-of (upTo at.mostCores n) (wholePages m) (eqb l (at.tableWords n)) e in
     let c = and-right (eqb (m % 4096) 0) (upTo at.mostPages (m / 4096)) (p .1) in

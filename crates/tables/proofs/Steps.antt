@@ -1,17 +1,15 @@
 -- The operations on records in a sound block: it stays sound, and its registers and APIC words stay.
 -- Assumes nothing.
 use mathlib.Core.Path.{_≡_, sym, _∙_}
-use mathlib.Core.Logic.{_≢_}
 use Prim.Native.Nat.{ℕ, _+_, _<_, _≤_}
 use mathlib.Core.Bool.{true, false}
 use mathlib.Core.List.{List, [], _∷_, _++_}
 use native.Mathlib.Omega.{arith}
-use lib.ListN.{length, getD, take, drop}
-use Rattle.layout.specs.Layout as at
+use lib.ListN.{length, drop}
 use Rattle.records.specs.declared.Store.{Store}
 use Rattle.records.specs.declared.Walk.{Walk}
 use Rattle.records.specs.declared.Flush.{Flush}
-use Rattle.records.specs.Records.{all, stores, walks, linked, among, differing, goes, staying, withWalk, putStore, takeStore, addWalk, dropWalks}
+use Rattle.records.specs.Records.{all, stores, walks, linked, among, goes, staying, withWalk, putStore, takeStore, addWalk, dropWalks}
 use Rattle.records.specs.Contents.{storeSound, walkSound, soundRecords}
 use Rattle.records.proofs.Contents.{parts-of}
 use Rattle.records.proofs.Laws.{After, few-stores, few-walks, take-law, put-law, add-law, drop-law}
@@ -19,7 +17,7 @@ use Rattle.records.proofs.Sound.{take-sound, put-sound, add-sound, drop-sound}
 use Rattle.tables.specs.Views.{registersOf}
 use Rattle.tables.specs.Sound.{soundBlock}
 use Rattle.tables.proofs.Parts.{words-of, records-of, of-parts}
-use Rattle.tables.proofs.Places.{words-same, run-same, registers-same}
+use Rattle.tables.proofs.Places.{words-same, registers-same}
 
 pub block-linked : (n : ℕ) (b : List ℕ) → soundBlock n b ≡ true → linked b ≡ true
 block-linked n b e = parts-of n b (records-of n b e) .0
@@ -29,16 +27,9 @@ module _ {b c : List ℕ} {ss : List Store} {ws : List Walk} (A : After b c ss w
   after-block : (n : ℕ) → soundBlock n b ≡ true → soundRecords n c ≡ true → soundBlock n c ≡ true
   after-block n e f = of-parts n c (words-same b c (A .low) (words-of n b e)) f
 
-  pub after-word : (i : ℕ) → i < 128 → i ≢ at.storeHead → i ≢ at.walkHead → i ≢ at.freeHead → getD c i 0 ≡ getD b i 0
-  after-word = A .low
-
   module _ (long : length b ≡ 256) where
     pub after-registers : registersOf c ≡ registersOf b
     after-registers = registers-same b c (A .long ∙ sym long) (λ j p. A .low j (omega arith) (omega arith) (omega arith) (omega arith))
-
-    -- a run of words above the heads: ports and eoipending
-    pub after-run : (i k : ℕ) → at.freeHead < i → i + k ≤ at.records → take k (drop i c) ≡ take k (drop i b)
-    after-run i k h l = run-same b c i k (A .long ∙ sym long) (λ j p q. A .low j (omega arith) (omega arith) (omega arith) (omega arith))
 
 module _ (n : ℕ) (b : List ℕ) (e : soundBlock n b ≡ true) where
   -- what the records of a sound block hold
@@ -47,9 +38,6 @@ module _ (n : ℕ) (b : List ℕ) (e : soundBlock n b ≡ true) where
 
   pub block-walks : all walkSound (walks b) ≡ true
   block-walks = parts-of n b (records-of n b e) .2
-
-  pub block-differing : differing (walks b) ≡ true
-  block-differing = parts-of n b (records-of n b e) .3
 
   module _ (long : length b ≡ 256) where
     pub block-few-stores : length (stores b) ≤ 8

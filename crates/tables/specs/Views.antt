@@ -45,9 +45,6 @@ runningOf b = getD b at.running 0
 
 -- ---- the local APIC of a block
 
-abbrev pub portsOf : List ℕ → List ℕ
-portsOf b = take 32 (drop at.ports b)
-
 -- port byte i, low byte first
 abbrev pub portByte : List ℕ → ℕ → ℕ
 portByte b i = getD b (at.ports + i / 4) 0 / 256 ^ (i % 4) % 256

@@ -1,13 +1,12 @@
 -- Laws of page table entries: the accessed bit and the other fields, and the bytes of an entry in memory.
 -- Assumes nothing.
 use mathlib.Core.Path.{_≡_, refl, sym, ap, ap₂, subst, _∙_}
-use mathlib.Core.Logic.{_≢_}
 use mathlib.Core.Bool.{Bool, true, false}
 use mathlib.Core.List.{List}
 use Prim.Native.Nat.{ℕ, zero, suc, _+_, _*_, _/_, _%_, _^_, _≤_, _<_}
 use native.Mathlib.Omega.{arith}
 use lib.ListN.{length, getD, set}
-use lib.Seq.{set-getD, getD-set-same, getD-set-other}
+use lib.Seq.{set-getD, getD-set-other}
 use lib.Dec.{eqb, leb}
 use borrow.Author.Tests.{eq-eqb, ne-eqb, eqb-true, eqb-false, le-leb, lt-leb}
 use Rattle.word.specs.Word.{if_then_else_}
@@ -44,12 +43,6 @@ module _ (e : ℕ) where
 
   pub set-d-high : set-d e / 2 ^ 8 ≡ e / 2 ^ 8
   set-d-high = by-bit (λ (n : ℕ). n / 2 ^ 8 ≡ e / 2 ^ 8) (λ p. refl) (λ p. omega (arith, clear p))
-
-  pub set-d-low : set-d e % 2 ^ 7 ≡ e % 2 ^ 7
-  set-d-low = by-bit (λ (n : ℕ). n % 2 ^ 7 ≡ e % 2 ^ 7) (λ p. refl) (λ p. omega (arith, clear p))
-
-  pub set-d-lt : (k : ℕ) → e < 2 ^ 8 * k → set-d e < 2 ^ 8 * k
-  set-d-lt k h = by-bit (λ (n : ℕ). n < 2 ^ 8 * k) (λ p. h) (λ p. omega (arith, clear p))
 
   -- of an entry: the lowest byte is that of the lowest byte
   pub set-d-byte : set-d e % 2 ^ 8 ≡ set-d (e % 2 ^ 8)
@@ -132,17 +125,6 @@ mark-memory m a h =
     later : (j : ℕ) → a + 1 ≤ j → getD (set m a (set-d (getD m a 0))) j 0 < 2 ^ 8
     later j k = rw (getD-set-other m a j (set-d (getD m a 0)) 0 (omega arith)) (h j)
 
--- so every other byte is as before
-pub mark-other : (m : List ℕ) (a j : ℕ) → Bytes m → j ≢ a → getD (put 4 m a (set-d (bytesAt 4 m a))) j 0 ≡ getD m j 0
-mark-other m a j h d = rw (mark-memory m a h) (getD-set-other m a j (set-d (getD m a 0)) 0 d)
-
-pub mark-byte : (m : List ℕ) (a : ℕ) → Bytes m → a < length m → getD (put 4 m a (set-d (bytesAt 4 m a))) a 0 ≡ set-d (getD m a 0)
-mark-byte m a h k = rw (mark-memory m a h) (getD-set-same m a (set-d (getD m a 0)) 0 k)
-
 -- an entry without its lowest byte: where base, present and rights stand
 pub entry-high : (m : List ℕ) (a : ℕ) → Bytes m → bytesAt 4 m a / 2 ^ 8 ≡ bytesAt 3 m (a + 1)
 entry-high m a h = omega (arith, h a)
-
--- a bit set already: memory is as it was
-pub mark-again : (m : List ℕ) (a : ℕ) → Bytes m → pteA (bytesAt 4 m a) ≡ true → put 4 m a (set-d (bytesAt 4 m a)) ≡ m
-mark-again m a h e = ap (put 4 m a) (set-d-set (bytesAt 4 m a) e) ∙ put-back 4 m a (λ j k. h j)

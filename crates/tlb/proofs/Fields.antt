@@ -5,11 +5,11 @@ use mathlib.Core.Bool.{Bool, true, false}
 use Prim.Native.Nat.{ℕ, _+_, _-_, _*_, _/_, _%_, _^_, _≤_, _<_}
 use native.Mathlib.Omega.{arith}
 use lib.Dec.{eqb, leb}
-use borrow.Author.Tests.{eq-eqb, ne-eqb, eqb-true, eqb-false, leb-true, ltb-true, le-leb, lt-ltb}
+use borrow.Author.Tests.{eq-eqb, ne-eqb, eqb-true, eqb-false, leb-true, le-leb, lt-ltb}
 use Rattle.records.specs.declared.Walk.{Walk}
 use Rattle.records.specs.Contents.{walkSound}
-use Rattle.records.proofs.Counts.{and-left, and-right, and-both}
-use Rattle.tlb.specs.Walks.{walkVa, walkAsid, walkLevel, walkR, walkBa, walkOf, index, ptea, pteP, pteR, pteBa, complete, winit, wext, baseAddress}
+use Rattle.records.proofs.Counts.{and-left, and-both}
+use Rattle.tlb.specs.Walks.{walkVa, walkAsid, walkLevel, walkR, walkBa, walkOf, index, ptea, pteP, pteR, pteBa, complete, winit, wext}
 
 -- two walks with equal words
 pub same-walk : {v w : Walk} → v .first ≡ w .first → v .second ≡ w .second → v ≡ w
@@ -57,18 +57,6 @@ module _ (w : Walk) (e : walkSound w ≡ true) where
   pub level-sound : walkLevel w ≤ 2
   unfolding walkSound
   level-sound = leb-true _ 2 (and-left (leb (walkLevel w) 2) _ e)
-
-  pub base-sound : walkBa w < 2 ^ 20
-  unfolding walkSound
-  base-sound = ltb-true _ (2 ^ 20) (and-right (eqb (w .first / 32 % 2) 0) _ (and-right (leb (walkLevel w) 2) _ e))
-
-  bit5 : w .first / 32 % 2 ≡ 0
-  unfolding walkSound
-  bit5 = eqb-true _ 0 (and-left (eqb (w .first / 32 % 2) 0) _ (and-right (leb (walkLevel w) 2) _ e))
-
-  pub packed : walkOf (walkVa w) (walkAsid w) (walkLevel w) (walkR w) (walkBa w) ≡ w
-  unfolding walkOf
-  packed = same-walk (digits (w .first) bit5) refl
 
 -- ---- the entry that extends a walk
 
@@ -164,7 +152,3 @@ wext-fields w e p =
 -- an incomplete walk has a level to lose
 pub incomplete-level : (w : Walk) → complete w ≡ false → 0 < walkLevel w
 incomplete-level w e = let n = eqb-false (walkLevel w) 0 e in omega arith
-
--- the base page of an address is its high 20 bits
-pub base-address : (a : ℕ) → a < 2 ^ 32 → a / 2 ^ 12 ≡ baseAddress a
-base-address a h = omega arith
