@@ -1,7 +1,7 @@
 -- The external event (definition 66) by the lowest vectors of IRR and ISR.
 -- Assumes nothing.
 use mathlib.Core.Path.{_≡_, refl, sym, ap, _∙_, subst}
-use mathlib.Core.Bool.{Bool, true, false, _||_}
+use mathlib.Core.Bool.{Bool, true, false}
 use mathlib.Core.List.{List}
 use mathlib.Core.Logic.{⊎-elim}
 use Prim.Native.Nat.{ℕ, zero, suc, _≤_, _<_}
@@ -10,6 +10,7 @@ use lib.Dec.{eqb}
 use borrow.Author.Tests.{eq-eqb, ne-eqb}
 use Rattle.word.specs.Word.{if_then_else_}
 use Rattle.word.proofs.Laws.{side}
+use Rattle.word.proofs.Truth.{or-true}
 use Rattle.apic.specs.declared.vectors.Found.the-variants.{Vector, None}
 use Rattle.apic.specs.Vectors.{bitAt, least, lowest}
 use Rattle.apic.specs.LocalApic.{isr, irr, someUpTo, event}
@@ -23,10 +24,6 @@ some-no f zero c = ne-eqb (f 0) 1 (c 0 (omega arith))
 some-no f (suc j) c =
     rw (ne-eqb (f (suc j)) 1 (c (suc j) (omega arith)))
     (some-no f j (λ k l. c k (omega arith)))
-
-or-true : (t : Bool) → t || true ≡ true
-or-true true = refl
-or-true false = refl
 
 some-yes : (f : ℕ → ℕ) (j k : ℕ) → k ≤ j → f k ≡ 1 → someUpTo f j ≡ true
 unfolding someUpTo

@@ -13,6 +13,7 @@ use lib.Dec.{eqb, ltb, leb}
 use borrow.Author.Tests.{ltb-true, ltb-false, lt-ltb}
 use Rattle.word.specs.Word.{if_then_else_}
 use Rattle.word.specs.Bytes.{bytesAt, put}
+use Rattle.word.proofs.Truth.{tested}
 use Rattle.layout.specs.Blocks.{block}
 use Rattle.records.specs.Records.{chain, count, each, all, stores, walks, among, differing, linked}
 use Rattle.records.specs.Contents.{soundRecords, storeSound, walkSound}
@@ -40,7 +41,7 @@ use Rattle.reach.specs.Reach.{Pages, reached, isGroup, reach, firstPages, secon
 use Rattle.separation.specs.declared.Verdict.the-variants.{Yes}
 use Rattle.separation.specs.Apart.{disjoint, apart, pagesApart, apartOn, rest, running}
 use Rattle.separation.specs.Separation.{Machine, Given, start, called, isInterrupt, admitted, Alike, Separated, reachable, seen}
-use Rattle.reach.proofs.Lists.{tested, In, map-same, in-cases, in-none}
+use Rattle.reach.proofs.Lists.{In, map-same, in-cases, in-none}
 use Rattle.separation.proofs.Memory.{page, Same, bytes-same}
 use Rattle.records.proofs.Facts.{all-at}
 use Rattle.separation.proofs.Mapped.{shown-is}

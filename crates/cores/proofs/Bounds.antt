@@ -7,9 +7,9 @@ use Prim.Native.Nat.{ℕ, _^_, _<_, _≤_}
 use native.Mathlib.Omega.{arith}
 use borrow.Author.Tests.{ltb-true}
 use Rattle.word.proofs.Words.{Words}
+use Rattle.word.proofs.Truth.{and-left, and-right}
 use Rattle.isa.proofs.Words.{effect-words, jisr-words, rfe-words}
 use Rattle.records.proofs.Bounds.{put-words, take-words, add-words, drop-words, store-words}
-use Rattle.records.proofs.Counts.{and-left, and-right}
 use Rattle.records.proofs.Facts.{walk-facts}
 use Rattle.tables.specs.Views.{registersOf}
 use Rattle.tables.proofs.Words.{block-registers, with-words}

@@ -12,13 +12,13 @@ use Rattle.word.specs.Word.{if_then_else_}
 use Rattle.word.proofs.Bytes.{Bytes}
 use Rattle.word.proofs.Tests.{true-false}
 use Rattle.word.proofs.Words.{Words}
+use Rattle.word.proofs.Truth.{and-left, and-right, and-both}
 use Rattle.layout.specs.Layout.{spr, pto}
 use Rattle.records.specs.declared.Store.{Store}
 use Rattle.records.specs.declared.Walk.{Walk}
 use Rattle.records.specs.Records.{all, stores, walks, among}
 use Rattle.records.specs.Contents.{localPort, ioPort, storeSound, walkSound}
 use Rattle.records.proofs.Bounds.{held-first, value-lt}
-use Rattle.records.proofs.Counts.{and-left, and-right, and-both}
 use Rattle.tables.specs.Sound.{soundBlock}
 use Rattle.tables.proofs.Steps.{block-stores, block-walks}
 use Rattle.tlb.specs.declared.Entry.{Entry}

@@ -1,21 +1,21 @@
 -- What a plan asks, taken apart for the functions that do it.
 -- Assumes nothing.
-use mathlib.Core.Path.{_≡_, refl, sym, _∙_, ap, subst}
-use mathlib.Core.Bool.{Bool, true, _&&_}
+use mathlib.Core.Path.{_≡_, _∙_, subst}
+use mathlib.Core.Bool.{true}
 use mathlib.Core.List.{List}
 use Prim.Native.Nat.{ℕ, _+_, _<_, _≤_}
 use lib.ListN.{length}
-use lib.Dec.{leb, ltb}
+use lib.Dec.{leb}
 use borrow.Author.Tests.{ltb-true, leb-true}
 use Rattle.records.specs.Records.{linked}
-use Rattle.records.proofs.Counts.{and-left, and-right}
 use Rattle.store_buffer.specs.System.{sized}
 use Rattle.ioapic.specs.IoApic.{writes}
 use Rattle.cores.specs.declared.Write.{Write}
 use Rattle.cores.specs.declared.Write.the-variants.{Memory, LocalPort, IoPort}
 use Rattle.cores.specs.declared.Plan.{Plan}
 use Rattle.cores.specs.Commit.{coreAfter, bufferAfter, walksAfter, bufferReady, walksReady, portReady, ready, fits}
-use Rattle.cores.proofs.Changes.{Left, core-left, buffer-after, walks-after, buffer-asks, walks-ask}
+use Rattle.cores.proofs.Changes.{core-left, buffer-after, walks-after, buffer-asks, walks-ask}
+use Rattle.word.proofs.Truth.{and-left, and-right}
 
 pub memory-fits : {x : Write} (a d v n : ℕ) → x ≡ Memory a d v → fits x n ≡ true → (sized d ≡ true) × (a + d ≤ n)
 unfolding fits

@@ -10,6 +10,7 @@ use native.Mathlib.Omega.{arith}
 use borrow.Author.Tests.{lt-ltb, leb-false, ltb-true, eqb-true}
 use Rattle.word.specs.Word.{if_then_else_}
 use Rattle.word.proofs.Words.{if-both}
+use Rattle.word.proofs.Truth.{and-left, and-right, and-both}
 use Rattle.layout.specs.Layout.{sr}
 use Rattle.decode.specs.declared.Instruction.{Instruction}
 use Rattle.decode.specs.Fields.{rs, rd, rt}
@@ -24,7 +25,6 @@ use Rattle.records.specs.declared.Walk.{Walk}
 use Rattle.records.specs.declared.Flush.the-variants.{All, Incomplete}
 use Rattle.records.specs.Records.{stores}
 use Rattle.records.specs.Contents.{allThere, storeSound}
-use Rattle.records.proofs.Counts.{and-left, and-right, and-both}
 use Rattle.tlb.specs.declared.Faulting.{Faulting}
 use Rattle.tlb.specs.declared.Faulting.the-variants.{Faults, Passes, Undecided}
 use Rattle.tlb.specs.Walks.{walkBa, baseAddress, pageKey}

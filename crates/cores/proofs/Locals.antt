@@ -5,7 +5,7 @@ use mathlib.Core.Path.{_≡_, refl, _∙_, ap}
 use mathlib.Core.Logic.{_≢_, _⊎_, inl, inr, ⊎-elim}
 use mathlib.Core.Bool.{Bool, true, false}
 use mathlib.Core.List.{List}
-use Prim.Native.Nat.{ℕ, zero, suc, _+_, _*_, _/_, _%_, _^_, _<_, _≤_}
+use Prim.Native.Nat.{ℕ, _+_, _*_, _%_, _^_, _<_, _≤_}
 use lib.ListN.{length, getD, set, length-set}
 use lib.Seq.{getD-set-other}
 use lib.Dec.{eqb, ltb}
@@ -16,22 +16,20 @@ use Rattle.word.specs.Bytes.{put}
 use Rattle.word.proofs.Bytes.{Bytes, put-length, put-bytes}
 use Rattle.word.proofs.Tests.{true-false}
 use Rattle.word.proofs.Words.{Words}
+use Rattle.word.proofs.Truth.{and-left, and-right}
 use Rattle.layout.specs.Layout.{ioregsel, iowin, redirect}
 use Rattle.layout.specs.Blocks.{block}
 use Rattle.layout.proofs.Blocks.{with-long, with-block, with-other, with-outside, set-block}
-use Rattle.records.proofs.Counts.{and-left, and-right}
 use Rattle.tables.specs.Views.{coresOf}
 use Rattle.tables.specs.Sound.{sound}
 use Rattle.tables.proofs.Lift.{header, core-long, core-sound, bytes-divide, with-sound, set-header-sound}
 use Rattle.store_buffer.specs.System.{sized, aligned}
 use Rattle.ioapic.specs.IoApic as ioapic
 use Rattle.ioapic.proofs.Blocks.{block-words, withBlock-words}
-use Rattle.steps.specs.declared.Answer.the-variants.{Refused}
 use Rattle.cores.specs.declared.Write.{Write}
 use Rattle.cores.specs.declared.Write.the-variants.{Memory, LocalPort, IoPort}
 use Rattle.cores.specs.declared.Plan.{Plan}
-use Rattle.cores.specs.Plans.{refused}
-use Rattle.cores.specs.Commit.{coreAfter, bufferAfter, walksAfter, portAfter, blockAfter, headerAfter, tablesByPlan, writtenTo, memoryByPlan, fits}
+use Rattle.cores.specs.Commit.{blockAfter, headerAfter, tablesByPlan, writtenTo, memoryByPlan, fits}
 use Rattle.cores.proofs.Doing.{port-ready}
 use Rattle.cores.proofs.Sounds.{plan-shows}
 use Rattle.cores.proofs.Bounds.{PlanWords, after-words, header-words}

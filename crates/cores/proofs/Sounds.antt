@@ -11,6 +11,7 @@ use lib.Dec.{eqb}
 use native.Mathlib.Omega.{arith}
 use borrow.Author.Tests.{ltb-true}
 use Rattle.word.specs.Word.{if_then_else_}
+use Rattle.word.proofs.Truth.{and-left, and-right}
 use Rattle.layout.specs.Layout as at
 use Rattle.decode.specs.declared.Instruction.{Instruction}
 use Rattle.isa.specs.declared.registers.Registers.{Registers}
@@ -21,7 +22,6 @@ use Rattle.records.specs.declared.Store.{Store}
 use Rattle.records.specs.declared.Walk.{Walk}
 use Rattle.records.specs.Records.{stores, walks, among, goes, staying, withWalk}
 use Rattle.records.specs.Contents.{storeSound, walkSound}
-use Rattle.records.proofs.Counts.{and-left, and-right}
 use Rattle.records.proofs.Frame.{Alike, same-stores, same-walks, same-sound}
 use Rattle.records.proofs.Laws.{After}
 use Rattle.tables.specs.Views.{registersOf, withRegisters, runningOf}

@@ -10,9 +10,9 @@ use borrow.Author.Tests.{ltb-true, lt-ltb}
 use Rattle.word.proofs.Tests.{true-false}
 use Rattle.word.proofs.Bytes.{Bytes}
 use Rattle.word.proofs.Words.{Words}
+use Rattle.word.proofs.Truth.{and-left, and-right, and-both}
 use Rattle.layout.specs.Layout.{spr, pto}
 use Rattle.layout.specs.Blocks.{block}
-use Rattle.records.proofs.Counts.{and-left, and-right, and-both}
 use Rattle.tables.specs.Views.{coresOf, ioregselOf, iowinOf}
 use Rattle.tables.specs.Sound.{sound}
 use Rattle.tables.proofs.Lift.{core-sound}

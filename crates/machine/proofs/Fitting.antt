@@ -1,9 +1,9 @@
 -- What sound tables have for a core's step, and what an action asks.
 -- Assumes nothing.
-use mathlib.Core.Path.{_≡_, refl, sym, _∙_, ap, subst}
-use mathlib.Core.Bool.{Bool, true, _&&_}
+use mathlib.Core.Path.{_≡_, subst}
+use mathlib.Core.Bool.{true}
 use mathlib.Core.List.{List}
-use Prim.Native.Nat.{ℕ, _+_, _*_, _%_, _^_, _<_, _≤_}
+use Prim.Native.Nat.{ℕ, _+_, _*_, _%_, _<_, _≤_}
 use lib.ListN.{length}
 use lib.Dec.{ltb}
 use native.Mathlib.Omega.{arith}
@@ -11,8 +11,7 @@ use borrow.Author.Tests.{ltb-true}
 use Rattle.layout.specs.Blocks.{block}
 use Rattle.records.specs.Records.{linked}
 use Rattle.records.specs.Contents.{soundRecords}
-use Rattle.records.proofs.Counts.{and-left, and-right}
-use Rattle.tables.specs.Views.{coresOf, pagesOf}
+use Rattle.tables.specs.Views.{coresOf}
 use Rattle.tables.specs.Sound.{sound}
 use Rattle.tables.proofs.Parts.{records-of}
 use Rattle.tables.proofs.Steps.{block-linked}
@@ -23,6 +22,7 @@ use Rattle.cores.specs.Commit.{ready, fits}
 use Rattle.machine.specs.declared.action.Action.{Action}
 use Rattle.machine.specs.declared.action.Action.the-variants.{Planned, SendIpi, SendEoi, InitCore, StartCore, Sample, Deliver, SetLine}
 use Rattle.machine.specs.Actions.{doable}
+use Rattle.word.proofs.Truth.{and-left, and-right}
 
 module _ (t : List ℕ) (n : ℕ) (e : sound t n ≡ true) where
   pub header-words : 32 ≤ length t

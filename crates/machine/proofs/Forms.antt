@@ -7,9 +7,9 @@ use Prim.Native.Nat.{ℕ, _^_}
 use lib.Dec.{eqb, ltb}
 use lib.ListN.{length}
 use Rattle.word.specs.Word.{if_then_else_}
-use Rattle.records.proofs.Counts.{and-left, and-right, and-both}
+use Rattle.word.proofs.Truth.{and-left, and-both}
 use Rattle.steps.specs.declared.Step.{Step}
-use Rattle.steps.specs.declared.Step.the-variants.{Core, TlbCreate, TlbExtend, TlbAccessed, StoreBuffer, SendIpi, SendEoi, InitCore, StartCore, Sample, Deliver, SetLine, NotAStep}
+use Rattle.steps.specs.declared.Step.the-variants.{TlbCreate, StartCore, SetLine, NotAStep}
 use Rattle.machine.specs.inner.Split.{formed}
 use Rattle.steps.specs.Form.{stepOf, orNot, stepOfCore, stepOfLine, word, zero2, zero3, zero4, zero5}
 

@@ -15,12 +15,12 @@ use borrow.Author.Tests.{eqb-false, leb-true, ltb-true, lt-ltb}
 use Rattle.word.specs.Word.{if_then_else_}
 use Rattle.word.proofs.Bytes.{Bytes}
 use Rattle.word.proofs.Tests.{true-false}
+use Rattle.word.proofs.Truth.{and-left}
 use Rattle.layout.specs.Layout as at
 use Rattle.layout.specs.Blocks.{block}
 use Rattle.layout.proofs.Blocks.{set-block}
 use Rattle.records.specs.declared.Walk.{Walk}
 use Rattle.records.specs.Records.{stores, walks}
-use Rattle.records.proofs.Counts.{and-left}
 use Rattle.tables.specs.Views.{coresOf, ioregselOf, iowinOf, refusalsOf}
 use Rattle.tables.specs.Sound.{sound}
 use Rattle.tables.proofs.Lift.{core-fits, core-sound}

@@ -9,7 +9,7 @@ use lib.ListN.{length, take, drop}
 use native.Mathlib.Omega.{arith}
 use borrow.Author.Tests.{ltb-true, leb-true}
 use Rattle.word.specs.Word.{if_then_else_}
-use Rattle.records.proofs.Counts.{and-right}
+use Rattle.word.proofs.Truth.{and-right}
 use Rattle.tables.specs.Sound.{sound}
 use Rattle.steps.specs.declared.Answer.{Answer}
 use Rattle.steps.specs.declared.Answer.the-variants.{Done, Interrupt, Refused}

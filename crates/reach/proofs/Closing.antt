@@ -10,6 +10,7 @@ use lib.Dec.{eqb, ltb}
 use lib.ListN.{length, getD, replicate, length-replicate, getD-replicate, List·getD-eq-default}
 use Rattle.word.specs.Word.{if_then_else_, isSet, flag}
 use Rattle.word.proofs.Bytes.{Bytes}
+use Rattle.word.proofs.Truth.{and-left, or-assoc, or-none, or-turn}
 use Rattle.layout.specs.Blocks.{block}
 use Rattle.records.specs.Records.{all, levelOf, walkIn, walkNumbers, storeNumbers}
 use Rattle.tables.specs.Views.{coresOf, pagesOf}
@@ -18,7 +19,7 @@ use Rattle.tables.proofs.Lift.{header}
 use Rattle.reach.specs.Lists.{range, has, select}
 use Rattle.reach.specs.Reach.{members, anyRights, grantsWrite, named, firstPages, secondPages, dataPages, writablePages, reach, inMemory, mapByte, mapFor}
 use Rattle.reach.specs.inner.Marks.{Name, name, marks, strays, Marked, isMarked, isWritten, byteOf, walkName, recordName, coreNames, memberNames, rootNames, entryNames, passNames}
-use Rattle.reach.proofs.Lists.{decided, and-left, Each, each-append, each-flatMap, if-both, has-append, all-append, all-same, or-assoc, or-turn, or-none, flatMap-below, map-same, range-in}
+use Rattle.reach.proofs.Lists.{decided, Each, each-append, each-flatMap, if-both, has-append, all-append, all-same, flatMap-below, map-same, range-in}
 use Rattle.reach.proofs.Marking.{marks-long}
 use Rattle.reach.proofs.Sets.{Proper, ofKind, written, pagesWith, with-none, with-cons, with-append, marks-marked, marks-written}
 use Rattle.reach.proofs.Passes.{pass-proper, pass-other}

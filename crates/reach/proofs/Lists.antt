@@ -10,13 +10,9 @@ use native.Mathlib.Decide.{ℕ-discrete, decLt}
 use lib.Dec.{eqb}
 use borrow.Author.Tests.{eqb-true, eq-eqb, not-true}
 use Rattle.word.specs.Word.{if_then_else_}
+use Rattle.word.proofs.Truth.{and-left, and-right, and-both, and-assoc, or-assoc, or-cases, or-first, or-second, tested}
 use Rattle.records.specs.Records.{all}
 use Rattle.reach.specs.Lists.{range, has, select}
-
--- a test is a fact or its opposite
-pub tested : {B : Type 0} (t : Bool) → (t ≡ true → B) → (t ≡ false → B) → B
-tested true f g = f refl
-tested false f g = g refl
 
 pub decided : {A B : Type 0} → Dec A → (A → B) → ((A → ⊥) → B) → B
 decided (yes a) f g = f a
@@ -24,38 +20,6 @@ decided (no a) f g = g a
 
 pub clash : {A : Type 0} (t : Bool) → t ≡ true → t ≡ false → A
 clash t p q = absurd (false≢true (sym q ∙ p))
-
-pub and-left : (a b : Bool) → a && b ≡ true → a ≡ true
-and-left true b e = refl
-and-left false b e = e
-
-pub and-right : (a b : Bool) → a && b ≡ true → b ≡ true
-and-right true b e = e
-and-right false b e = absurd (false≢true e)
-
-pub and-both : (a b : Bool) → a ≡ true → b ≡ true → a && b ≡ true
-and-both true b p q = q
-and-both false b p q = p
-
-pub or-cases : (a b : Bool) → a || b ≡ true → (a ≡ true) ⊎ (b ≡ true)
-or-cases true b e = inl refl
-or-cases false b e = inr e
-
-pub or-left : (a b : Bool) → a ≡ true → a || b ≡ true
-or-left true b e = refl
-or-left false b e = absurd (false≢true e)
-
-pub or-right : (a b : Bool) → b ≡ true → a || b ≡ true
-or-right true b e = refl
-or-right false b e = e
-
-pub or-none-left : (a b : Bool) → a || b ≡ false → a ≡ false
-or-none-left true b e = e
-or-none-left false b e = refl
-
-pub or-none-right : (a b : Bool) → a || b ≡ false → b ≡ false
-or-none-right true b e = absurd (false≢true (sym e))
-or-none-right false b e = e
 
 -- a property of both branches is one of the choice
 pub if-both : {A : Type 0} (P : A → Type 0) (t : Bool) (x y : A) → (t ≡ true → P x) → (t ≡ false → P y) → P (if t then x else y)
@@ -83,11 +47,11 @@ in-none p h = absurd (false≢true h)
 
 pub in-here : (p : ℕ) (l : List ℕ) → In p (p ∷ l)
 unfolding has
-in-here p l = or-left _ _ (eq-eqb p p refl)
+in-here p l = or-first _ _ (eq-eqb p p refl)
 
 pub in-there : (p x : ℕ) (l : List ℕ) → In p l → In p (x ∷ l)
 unfolding has
-in-there p x l h = or-right (eqb p x) _ h
+in-there p x l h = or-second (eqb p x) _ h
 
 pub in-cases : (p x : ℕ) (l : List ℕ) → In p (x ∷ l) → (p ≡ x) ⊎ In p l
 unfolding has
@@ -96,18 +60,18 @@ in-cases p x l h = ⊎-elim (λ e. inl (eqb-true p x e)) (λ e. inr e) (or-cases
 pub in-left : (p : ℕ) (l r : List ℕ) → In p l → In p (l ++ r)
 unfolding has
 in-left p [] r h = absurd (false≢true h)
-in-left p (x ∷ l) r h = ⊎-elim (λ e. or-left (eqb p x) _ e) (λ e. or-right (eqb p x) _ (in-left p l r e)) (or-cases (eqb p x) _ h)
+in-left p (x ∷ l) r h = ⊎-elim (λ e. or-first (eqb p x) _ e) (λ e. or-second (eqb p x) _ (in-left p l r e)) (or-cases (eqb p x) _ h)
 
 pub in-right : (p : ℕ) (l r : List ℕ) → In p r → In p (l ++ r)
 unfolding has
 in-right p [] r h = h
-in-right p (x ∷ l) r h = or-right (eqb p x) _ (in-right p l r h)
+in-right p (x ∷ l) r h = or-second (eqb p x) _ (in-right p l r h)
 
 pub in-append : (p : ℕ) (l r : List ℕ) → In p (l ++ r) → In p l ⊎ In p r
 unfolding has
 in-append p [] r h = inr h
 in-append p (x ∷ l) r h =
-    ⊎-elim (λ e. inl (or-left (eqb p x) _ e)) (λ e. ⊎-elim (λ q. inl (or-right (eqb p x) _ q)) (λ q. inr q) (in-append p l r e)) (or-cases (eqb p x) _ h)
+    ⊎-elim (λ e. inl (or-first (eqb p x) _ e)) (λ e. ⊎-elim (λ q. inl (or-second (eqb p x) _ q)) (λ q. inr q) (in-append p l r e)) (or-cases (eqb p x) _ h)
 
 pub in-flatMap : (f : ℕ → List ℕ) (q p : ℕ) (l : List ℕ) → In q l → In p (f q) → In p (flatMap f l)
 unfolding flatMap
@@ -201,28 +165,6 @@ each-append P [] r h g = g
 each-append P (x ∷ l) r h g = (h .0, each-append P l r (h .1) g)
 
 -- ---- laws as equations
-
-pub or-assoc : (a b c : Bool) → (a || b) || c ≡ a || (b || c)
-or-assoc true b c = refl
-or-assoc false b c = refl
-
-pub or-turn : (a b : Bool) → a || b ≡ b || a
-or-turn true true = refl
-or-turn true false = refl
-or-turn false true = refl
-or-turn false false = refl
-
-pub or-none : (a b : Bool) → b ≡ false → a ≡ a || b
-or-none true b e = refl
-or-none false b e = sym e
-
-pub and-assoc : (a b c : Bool) → a && (b && c) ≡ (a && b) && c
-and-assoc true b c = refl
-and-assoc false b c = refl
-
-pub and-none : (a b : Bool) → b ≡ false → a && b ≡ false
-and-none true b e = e
-and-none false b e = refl
 
 -- two truth values that follow from each other
 pub both-ways : (a b : Bool) → (a ≡ true → b ≡ true) → (b ≡ true → a ≡ true) → a ≡ b

@@ -11,11 +11,12 @@ use lib.ListN.{length, getD, set, length-set}
 use borrow.Author.Tests.{lt-ltb, le-ltb, le-leb}
 use Rattle.word.specs.Word.{if_then_else_}
 use Rattle.word.specs.Bytes.{bytesAt}
+use Rattle.word.proofs.Truth.{or-assoc, or-none-left, or-none-right, or-true}
 use Rattle.tlb.specs.declared.Entry.the-variants.{Word}
 use Rattle.tlb.specs.Walks.{entryAt, pteaAt, pteP}
 use Rattle.reach.specs.Lists.{range}
 use Rattle.reach.specs.inner.Marks.{Name, name, place, mark, marks, strays, Marked, Beside, entryName, nameFrom, fourNames, entryNames}
-use Rattle.reach.proofs.Lists.{or-assoc, or-none-left, or-none-right, flatMap-append, flatMap-one}
+use Rattle.reach.proofs.Lists.{flatMap-append, flatMap-one}
 
 -- ---- the lists
 
@@ -82,10 +83,6 @@ or-none : (c : Bool) → c || false ≡ c
 or-none true = refl
 or-none false = refl
 
-or-all : (c : Bool) → c || true ≡ true
-or-all true = refl
-or-all false = refl
-
 pub beside-none : (n : ℕ) (b : Bool) (s : List ℕ) → Beside n b s s b []
 unfolding marks strays
 beside-none n b s = record { left = refl; beyond = sym (or-none b) }
@@ -96,7 +93,7 @@ beside-in n b s k p w h = let e = lt-ltb p n h in record { left = rw e; beyond =
 
 pub beside-out : (n : ℕ) (b : Bool) (s : List ℕ) (k p w : ℕ) → n ≤ p → Beside n b s s true (name k p w ∷ [])
 unfolding marks mark strays
-beside-out n b s k p w h = let e = le-ltb p n h in record { left = rw e; beyond = rw e (sym (or-all b)) }
+beside-out n b s k p w h = let e = le-ltb p n h in record { left = rw e; beyond = rw e (sym (or-true b)) }
 
 pub beside-then : {n : ℕ} {b p q : Bool} {s e f : List ℕ} {u v : List Name} → Beside n b s e p u → Beside n p e f q v → Beside n b s f q (u ++ v)
 beside-then {n} {b} {p} {q} {s} {e} {f} {u} {v} A B =

@@ -12,9 +12,10 @@ use lib.ListN.{length, getD, set}
 use lib.Seq.{getD-set-same, getD-set-other}
 use borrow.Author.Tests.{eq-eqb, ne-eqb, eqb-true, ltb-true, ltb-false}
 use Rattle.word.specs.Word.{if_then_else_}
+use Rattle.word.proofs.Truth.{and-left, and-right, and-both, and-none, or-assoc, or-cases, or-first, or-second, or-none, or-turn, tested}
 use Rattle.reach.specs.Lists.{has, select}
 use Rattle.reach.specs.inner.Marks.{Name, place, mark, marks, isMarked, isWritten}
-use Rattle.reach.proofs.Lists.{tested, decided, and-left, and-right, and-both, or-cases, or-left, or-right, or-assoc, or-turn, or-none, and-none, both-ways, Each}
+use Rattle.reach.proofs.Lists.{decided, both-ways, Each}
 use Rattle.reach.proofs.Marking.{mark-long}
 
 -- ---- the pages of the names that pass a test
@@ -85,8 +86,8 @@ plain-place k x y w p h =
     let f = eqb-true (y .kind) k (and-left _ _ e) in
     let g = eqb-true x (y .page) (and-right (eqb (y .kind) k) _ e) in
     decided (ℕ-discrete (y .write) 0)
-    (λ z. or-left _ _ (eq-eqb (place y) (8192 * k + x) (omega arith)))
-    (λ z. or-right (eqb (place y) (8192 * k + x)) _ (eq-eqb (place y) (8192 * k + 4096 + x) (omega arith))))
+    (λ z. or-first _ _ (eq-eqb (place y) (8192 * k + x) (omega arith)))
+    (λ z. or-second (eqb (place y) (8192 * k + x)) _ (eq-eqb (place y) (8192 * k + 4096 + x) (omega arith))))
 
 written-place : (k x : ℕ) (y : Name) → y .write < 2 → y .page < 4096 → x < 4096 → eqb (place y) (8192 * k + 4096 + x) ≡ written k y && eqb x (y .page)
 written-place k x y w p h =

@@ -10,14 +10,14 @@ use lib.ListN.{getD, set}
 use lib.Dec.{ltb, leb}
 use borrow.Author.Tests.{lt-ltb, ltb-true}
 use Rattle.word.proofs.Words.{Words, set-below}
+use Rattle.word.proofs.Truth.{and-left, and-right, and-both, or-cases}
 use Rattle.layout.specs.Layout.{recordAt, storeHead, walkHead, freeHead, localPorts, localPortBytes, ioPorts, ioPortBytes}
 use Rattle.records.specs.declared.Store.{Store}
 use Rattle.records.specs.declared.Walk.{Walk}
 use Rattle.records.specs.declared.Flush.{Flush}
 use Rattle.records.specs.Records.{all, among, walks, walkIn, storeNumbers, walkNumbers, goes, moved, release, insert, endOf, putStore, takeStore, addWalk, sweep, dropWalks}
 use Rattle.records.specs.Contents.{ioPort, there, allThere, storeSound}
-use Rattle.records.proofs.Counts.{and-left, and-right, and-both}
-use Rattle.records.proofs.Facts.{or-cases, store-facts, all-among}
+use Rattle.records.proofs.Facts.{store-facts, all-among}
 
 -- ---- the operations
 

@@ -12,11 +12,12 @@ use lib.Dec.{leb}
 use borrow.Author.Tests.{ltb-true, lt-ltb, le-ltb, le-leb, lt-leb, eq-eqb, ne-eqb}
 use Rattle.layout.specs.Layout.{recordAt}
 use Rattle.word.specs.Word.{flag}
+use Rattle.word.proofs.Truth.{and-left, and-both}
 use Rattle.records.specs.Records.{chain, chainAt, count, each, all, small}
 use Rattle.records.specs.declared.check.Rule.{Rule}
 use Rattle.records.specs.inner.Rules.{obeys, fitsRule, chainFits}
 use Rattle.records.specs.inner.Tallied.{Tallied}
-use Rattle.records.proofs.Counts.{either, and-left, and-both}
+use Rattle.records.proofs.Counts.{either}
 use Rattle.records.proofs.Three.{count-cons}
 
 -- one step of a chain, with k - 1 of the fuel left

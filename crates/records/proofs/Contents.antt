@@ -13,9 +13,10 @@ use Rattle.records.specs.Records.{all, chainAt, small, lastBlank, storeI
 use Rattle.records.specs.Contents.{storeSound, walkSound, soundRecords}
 use Rattle.records.specs.declared.check.Rule.the-variants.{Blank, Store, Walk}
 use Rattle.records.specs.inner.Rules.{obeys, fitsRule, chainFits, ruled}
-use Rattle.records.proofs.Counts.{and-left, and-right, and-both, all-append, all-both, all-left, all-right}
+use Rattle.records.proofs.Counts.{all-append, all-both, all-left, all-right}
 use Rattle.records.proofs.Good.{parts, all-of}
 use Rattle.records.proofs.Whole.{fails, ruled-of, ruled-all}
+use Rattle.word.proofs.Truth.{and-left, and-right, and-both}
 
 pub all-map : {A : Type 0} (p : A → Bool) (f : ℕ → A) (l : List ℕ) → all (λ n. p (f n)) l ≡ all p (map f l)
 unfolding all

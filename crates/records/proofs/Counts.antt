@@ -3,13 +3,14 @@ use mathlib.Core.Path.{_≡_, refl, sym, ap, _∙_}
 use mathlib.Core.Logic.{_⊎_, inl, inr, ⊎-elim}
 use native.Mathlib.Decide.{ℕ-discrete}
 use Prim.Native.Nat.{ℕ, zero, suc, _+_, _<_, _≤_}
-use mathlib.Core.Bool.{Bool, true, false, _&&_, false≢true}
+use mathlib.Core.Bool.{Bool, true, false, _&&_}
 use mathlib.Core.List.{List, [], _∷_, _++_}
 use native.Mathlib.Omega.{arith}
 use lib.ListN.{length}
 use lib.Dec.{eqb}
 use borrow.Author.Tests.{eqb-true, eqb-false, eq-eqb}
 use Rattle.word.specs.Word.{flag}
+use Rattle.word.proofs.Truth.{and-left, and-right, and-both}
 use Rattle.records.specs.Records.{count, each, all}
 
 pub count-append : (n : ℕ) (s t : List ℕ) → count n (s ++ t) ≡ count n s + count n t
@@ -28,18 +29,6 @@ bit-cases n x = go (eqb n x) refl
 pub count-here : (x : ℕ) (l : List ℕ) → count x (x ∷ l) ≡ suc (count x l)
 unfolding count
 count-here x l = rw (eq-eqb x x refl) (omega arith)
-
-pub and-left : (a b : Bool) → a && b ≡ true → a ≡ true
-and-left true b e = refl
-and-left false b e = e
-
-pub and-right : (a b : Bool) → a && b ≡ true → b ≡ true
-and-right true b e = e
-and-right false b e = absurd (false≢true e)
-
-pub and-both : (a b : Bool) → a ≡ true → b ≡ true → a && b ≡ true
-and-both true b p q = q
-and-both false b p q = p
 
 pub count-head : (x : ℕ) (l : List ℕ) → 0 < count x (x ∷ l)
 count-head x l = omega (arith, count-here x l)

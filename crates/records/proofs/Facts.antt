@@ -1,6 +1,6 @@
 -- Sound stores and walks as facts.
 -- Assumes nothing.
-use mathlib.Core.Path.{_≡_, refl, sym, ap, _∙_}
+use mathlib.Core.Path.{_≡_, sym, ap, _∙_}
 use mathlib.Core.Logic.{_⊎_, inl, inr, ⊎-elim}
 use Prim.Native.Nat.{ℕ, zero, suc, _/_, _%_, _^_, _<_, _≤_}
 use mathlib.Core.Bool.{Bool, true, false, _||_, false≢true}
@@ -13,7 +13,7 @@ use Rattle.records.specs.declared.Store.{Store}
 use Rattle.records.specs.declared.Walk.{Walk}
 use Rattle.records.specs.Records.{all, same, among, levelOf}
 use Rattle.records.specs.Contents.{allThere, storeSound, walkSound}
-use Rattle.records.proofs.Counts.{and-left, and-right}
+use Rattle.word.proofs.Truth.{and-left, and-right, or-cases}
 
 -- what is said of every element holds of the one at a place
 pub all-at : {A : Type 0} (p : A → Bool) (l : List A) (i : ℕ) (d : A) → all p l ≡ true → i < length l → p (getD l i d) ≡ true
@@ -21,14 +21,6 @@ unfolding all
 all-at p [] i d e h = absurd (omega arith)
 all-at p (x ∷ l) zero d e h = and-left (p x) (all p l) e
 all-at p (x ∷ l) (suc i) d e h = all-at p l i d (and-right (p x) (all p l) e) (omega arith)
-
-pub or-cases : (p q : Bool) → p || q ≡ true → (p ≡ true) ⊎ (q ≡ true)
-or-cases true q e = inl refl
-or-cases false q e = inr e
-
-or-first : (p q : Bool) → p ≡ true → p || q ≡ true
-or-first true q e = refl
-or-first false q e = absurd (false≢true e)
 
 -- two walks that are the same
 pub same-walk : (v w : Walk) → same v w ≡ true → v ≡ w

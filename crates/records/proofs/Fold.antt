@@ -11,8 +11,8 @@ use borrow.Author.Tests.{ltb-true}
 use Rattle.layout.specs.Layout.{recordAt, storeHead, walkHead}
 use Rattle.records.specs.declared.Walk.{Walk}
 use Rattle.records.specs.Records.{chain, chainAt, all, small, storeIn, walkIn, stores, walks, insert, addWalk, same, among, differing}
-use Rattle.records.proofs.Counts.{and-left, and-right}
 use Rattle.records.proofs.Checking.{all-cons, chain-step, chain-zero, chain-none}
+use Rattle.word.proofs.Truth.{and-left, and-right}
 
 -- k of the fuel is left, the records to come are below 32, and f of them is r
 pub record Left (f : List ℕ → Bool) (b : List ℕ) (r : Bool) (n k : ℕ) : Type 0 where

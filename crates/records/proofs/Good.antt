@@ -11,9 +11,10 @@ use lib.Dec.{eqb, ltb}
 use borrow.Author.Tests.{eqb-true, eq-eqb, leb-true, le-leb, ltb-true, lt-ltb}
 use Rattle.layout.specs.Layout.{recordAt, storeHead, walkHead, freeHead}
 use Rattle.records.specs.Records.{chain, chainAt, count, numbers, blank, lastBlank, onceEach, noOther, fewStores, fewWalks, freeBlank, walksBlank, firstBlank, linked}
-use Rattle.records.proofs.Counts.{and-left, and-right, and-both, all-elim, all-intro, each-elim, each-intro, count-append, count-cases, total-length, total-each}
+use Rattle.records.proofs.Counts.{all-elim, all-intro, each-elim, each-intro, count-append, count-cases, total-length, total-each}
 use Rattle.records.proofs.Links.{links-chain, chain-links}
 use Rattle.records.proofs.Three.{Three}
+use Rattle.word.proofs.Truth.{and-left, and-right, and-both}
 
 pub record Good (b ss ws fs : List ℕ) : Type 0 where
   pub three : Three b storeHead ss walkHead ws fs

@@ -2,7 +2,7 @@
 -- Assumes nothing.
 use mathlib.Core.Path.{_≡_, refl, sym, ap, _∙_}
 use Prim.Native.Nat.{ℕ, _<_}
-use mathlib.Core.Bool.{Bool, true, false, _&&_, _||_, not, true≢false}
+use mathlib.Core.Bool.{Bool, true, false, _&&_, _||_, not}
 use mathlib.Core.List.{List, [], _∷_, _++_}
 use lib.ListN.{length, drop}
 use borrow.Author.Tests.{not-true}
@@ -11,9 +11,9 @@ use Rattle.records.specs.declared.Walk.{Walk}
 use Rattle.records.specs.declared.Flush.{Flush}
 use Rattle.records.specs.Records.{all, stores, walks, same, among, differing, goes, staying, withWalk, putStore, takeStore, addWalk, dropWalks}
 use Rattle.records.specs.Contents.{storeSound, walkSound, soundRecords}
-use Rattle.records.proofs.Counts.{and-left, and-right, and-both}
 use Rattle.records.proofs.Laws.{After, take-law, put-law, add-law, drop-law}
 use Rattle.records.proofs.Contents.{parts-of, parts-all}
+use Rattle.word.proofs.Truth.{and-left, and-right, and-both, or-none-left, or-none-right}
 
 -- ---- rules on lists, which the lists after an operation keep
 
@@ -36,22 +36,14 @@ all-staying hit p (w ∷ l) e = go (hit (w .first)) (all-staying hit p l (and-ri
     go true f = f
     go false f = and-both (p w) _ (and-left (p w) (all p l) e) f
 
-or-left : (p q : Bool) → p || q ≡ false → p ≡ false
-or-left true q h = absurd (true≢false h)
-or-left false q h = refl
-
-or-right : (p q : Bool) → p || q ≡ false → q ≡ false
-or-right true q h = absurd (true≢false h)
-or-right false q h = h
-
 among-staying : (hit : ℕ → Bool) (v : Walk) (l : List Walk) → among v l ≡ false → among v (staying hit l) ≡ false
 unfolding among staying
 among-staying hit v [] e = refl
-among-staying hit v (w ∷ l) e = go (hit (w .first)) (among-staying hit v l (or-right (same w v) (among v l) e))
+among-staying hit v (w ∷ l) e = go (hit (w .first)) (among-staying hit v l (or-none-right (same w v) (among v l) e))
   where
     go : (t : Bool) → among v (staying hit l) ≡ false → among v (elim t [ true ↦ staying hit l | false ↦ w ∷ staying hit l ]) ≡ false
     go true h = h
-    go false h = ap (λ (s : Bool). s || among v (staying hit l)) (or-left (same w v) (among v l) e) ∙ h
+    go false h = ap (λ (s : Bool). s || among v (staying hit l)) (or-none-left (same w v) (among v l) e) ∙ h
 
 differing-staying : (hit : ℕ → Bool) (l : List Walk) → differing l ≡ true → differing (staying hit l) ≡ true
 unfolding differing staying

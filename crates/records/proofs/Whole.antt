@@ -9,12 +9,13 @@ use lib.ListN.{length, getD, replicate, getD-replicate, List·getD-eq-default}
 use lib.Dec.{eqb}
 use Rattle.layout.specs.Layout.{recordAt, storeHead, walkHead, freeHead}
 use Rattle.word.specs.Word.{flag}
+use Rattle.word.proofs.Truth.{and-left, and-right, and-both}
 use Rattle.records.specs.Records.{chain, chainAt, count, each, numbers, onceEach}
 use Rattle.records.specs.declared.check.Rule.{Rule}
 use Rattle.records.specs.declared.check.Rule.the-variants.{Blank, Store, Walk}
 use Rattle.records.specs.inner.Rules.{chainFits, ruled}
 use Rattle.records.specs.inner.Tallied.{Tallied}
-use Rattle.records.proofs.Counts.{either, and-left, and-right, and-both}
+use Rattle.records.proofs.Counts.{either}
 use Rattle.records.proofs.Good.{three-append}
 
 -- a test that a passed one implies, and that fails

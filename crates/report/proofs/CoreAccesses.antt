@@ -12,6 +12,7 @@ use borrow.Author.Tests.{eqb-true, ltb-true, leb-true, leb-false, lt-leb}
 use Rattle.word.specs.Word.{if_then_else_}
 use Rattle.word.proofs.Tests.{true-false}
 use Rattle.word.specs.Bytes.{byte}
+use Rattle.word.proofs.Truth.{or-true}
 use Rattle.layout.specs.Layout.{localPorts, ioPorts}
 use Rattle.layout.specs.Blocks.{block}
 use Rattle.decode.specs.declared.Instruction.{Instruction}
@@ -31,7 +32,6 @@ use Rattle.store_buffer.specs.Buffer.{sbhit, maxsbhit, sbhazard}
 use Rattle.store_buffer.specs.System as system
 use Rattle.store_buffer.specs.System.{memoryByte, reads, isPort, onRead, loaded, aligned}
 use Rattle.store_buffer.proofs.Access.{never, reads-each, reads-missing, InWord, aligned-word}
-use Rattle.store_buffer.proofs.Pass.{or-true}
 use Rattle.tables.specs.Views.{coresOf}
 use Rattle.tables.specs.Sound.{soundBlock, sound}
 use Rattle.tables.proofs.Lift.{header, core-long, core-sound}

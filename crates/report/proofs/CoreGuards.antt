@@ -7,12 +7,12 @@ use lib.Dec.{eqb}
 use lib.ListN.{length}
 use Rattle.word.specs.Word.{if_then_else_}
 use Rattle.word.proofs.Tests.{true-false, and-false}
+use Rattle.word.proofs.Truth.{and-both}
 use Rattle.decode.specs.declared.Instruction.{Instruction}
 use Rattle.decode.specs.Table.{decoded}
 use Rattle.decode.specs.Mnemonics.{load, store, cas, mfence}
 use Rattle.isa.specs.Core.{ea, d}
 use Rattle.records.specs.declared.Walk.{Walk}
-use Rattle.records.proofs.Counts.{and-both}
 use Rattle.tlb.specs.declared.Request.{Request}
 use Rattle.tlb.specs.Walks.{complete, hit, loadR, storeR}
 use Rattle.store_buffer.specs.Buffer.{sbhazard}

@@ -9,13 +9,13 @@ use native.Mathlib.Omega.{arith}
 use borrow.Author.Tests.{lt-ltb, le-ltb}
 use Rattle.word.specs.Word.{if_then_else_}
 use Rattle.word.proofs.Tests.{true-false, and-false}
+use Rattle.word.proofs.Truth.{and-left, and-right, and-both, or-first, or-second, or-off}
 use Rattle.decode.specs.declared.Instruction.{Instruction}
 use Rattle.decode.specs.Table.{decoded}
 use Rattle.decode.specs.Mnemonics.{load, store, cas}
 use Rattle.isa.specs.Core.{ea, d}
 use Rattle.isa.specs.Interrupts.{user}
 use Rattle.records.specs.declared.Walk.{Walk}
-use Rattle.records.proofs.Counts.{and-left, and-right, and-both}
 use Rattle.records.specs.Contents.{there, allThere}
 use Rattle.tlb.specs.declared.Request.{Request}
 use Rattle.tlb.specs.Walks.{complete, hit, ptea, loadR, storeR}
@@ -65,17 +65,6 @@ module _ (n : ℕ) (g : Bool) (y a d : ℕ) where
 
 -- ---- the six needs
 
-or-off : (a b : Bool) → a ≡ false → b ≡ false → (a || b) ≡ false
-or-off false b e f = f
-or-off true b e f = absurd (true-false e)
-
-or-first : (a b : Bool) → a ≡ true → (a || b) ≡ true
-or-first a b e = ap (λ (t : Bool). t || b) e
-
-or-last : (a b : Bool) → b ≡ true → (a || b) ≡ true
-or-last true b e = refl
-or-last false b e = e
-
 module _ (c : Configuration) (i : ℕ) (wI wR : Walk) (n y : ℕ) where
   abbrev pub N₁ : Bool
   N₁ = noByte n (report.usesI c i wI wR && not (complete wI) && hit (report.trqI c i wI wR) wI && inside y (ptea wI) 4) y
@@ -111,22 +100,22 @@ module _ (c : Configuration) (i : ℕ) (wI wR : Walk) (n y : ℕ) where
   missing₁ e = past₃ (or-first (N₁ || N₂) N₃ (or-first N₁ N₂ e))
 
   pub missing₂ : N₂ ≡ true → missing ≡ true
-  missing₂ e = past₃ (or-first (N₁ || N₂) N₃ (or-last N₁ N₂ e))
+  missing₂ e = past₃ (or-first (N₁ || N₂) N₃ (or-second N₁ N₂ e))
 
   pub missing₃ : N₃ ≡ true → missing ≡ true
-  missing₃ e = past₃ (or-last (N₁ || N₂) N₃ e)
+  missing₃ e = past₃ (or-second (N₁ || N₂) N₃ e)
 
   pub missing₄ : N₄ ≡ true → missing ≡ true
   unfolding coreMisses
-  missing₄ e = or-first (N₁ || N₂ || N₃ || N₄ || N₅) N₆ (or-first (N₁ || N₂ || N₃ || N₄) N₅ (or-last (N₁ || N₂ || N₃) N₄ e))
+  missing₄ e = or-first (N₁ || N₂ || N₃ || N₄ || N₅) N₆ (or-first (N₁ || N₂ || N₃ || N₄) N₅ (or-second (N₁ || N₂ || N₃) N₄ e))
 
   pub missing₅ : N₅ ≡ true → missing ≡ true
   unfolding coreMisses
-  missing₅ e = or-first (N₁ || N₂ || N₃ || N₄ || N₅) N₆ (or-last (N₁ || N₂ || N₃ || N₄) N₅ e)
+  missing₅ e = or-first (N₁ || N₂ || N₃ || N₄ || N₅) N₆ (or-second (N₁ || N₂ || N₃ || N₄) N₅ e)
 
   pub missing₆ : N₆ ≡ true → missing ≡ true
   unfolding coreMisses
-  missing₆ e = or-last (N₁ || N₂ || N₃ || N₄ || N₅) N₆ e
+  missing₆ e = or-second (N₁ || N₂ || N₃ || N₄ || N₅) N₆ e
 
   -- what does not take effect needs nothing
   pub idle₄ : report.does c i wI wR load ≡ false → N₄ ≡ false

@@ -8,13 +8,13 @@ use lib.Dec.{eqb}
 use native.Mathlib.Omega.{arith}
 use Rattle.word.specs.Word.{if_then_else_}
 use Rattle.word.proofs.Tests.{true-false, and-false}
+use Rattle.word.proofs.Truth.{and-left, and-right, and-true}
 use Rattle.decode.specs.declared.Instruction.{Instruction}
 use Rattle.decode.specs.Table.{decoded}
 use Rattle.decode.specs.Mnemonics.{load, store, cas}
 use Rattle.isa.specs.Core.{ea, d}
 use Rattle.isa.specs.Interrupts.{user, jisr, il}
 use Rattle.records.specs.declared.Walk.{Walk}
-use Rattle.records.proofs.Counts.{and-left, and-right}
 use Rattle.records.specs.Records.{among}
 use Rattle.tlb.specs.Walks.{complete, hit}
 use Rattle.store_buffer.specs.Buffer.{sbhazard}
@@ -67,10 +67,6 @@ narrow true false f e = refl
 narrow false a f e = refl
 
 -- ---- by what an instruction is
-
-pub and-true : (a : Bool) → (a && true) ≡ a
-and-true true = refl
-and-true false = refl
 
 on-true : (a : Bool) → a ≡ true → (a && true) ≡ true
 on-true a e = and-true a ∙ e

@@ -9,6 +9,7 @@ use lib.ListN.{length}
 use native.Mathlib.Omega.{arith}
 use Rattle.word.specs.Word.{if_then_else_, isSet}
 use Rattle.word.proofs.Tests.{true-false, and-false}
+use Rattle.word.proofs.Truth.{and-true}
 use Rattle.layout.specs.Layout as at
 use Rattle.layout.specs.Blocks.{block}
 use Rattle.decode.specs.declared.Instruction.{Instruction}
@@ -39,7 +40,7 @@ use Rattle.report.proofs.Memory.{nothing, consulted}
 use Rattle.report.proofs.Flushed.{page-flushed}
 use Rattle.report.proofs.CoreGuards.{off, holds-unasked, hold-without}
 use Rattle.report.proofs.CoreFacts as facts
-use Rattle.report.proofs.CoreRefusals.{K, guarded, allow, walk-holds, and-true}
+use Rattle.report.proofs.CoreRefusals.{K, guarded, allow, walk-holds}
 use Rattle.report.proofs.CoreNeeds.{missing, None, has-without, misses-entry}
 use Rattle.report.proofs.CoreEffects.{mal-stops, pff-stops, is-interrupt, stops-without, quiet, Lands, lead, R′, stopped-lands}
 

@@ -11,11 +11,11 @@ use native.Mathlib.Omega.{arith}
 use borrow.Author.Tests.{ltb-true, lt-ltb, le-ltb, leb-true, leb-false, le-leb, eqb-true}
 use Rattle.word.specs.Word.{if_then_else_, isSet}
 use Rattle.word.proofs.Tests.{true-false}
+use Rattle.word.proofs.Truth.{and-left}
 use Rattle.layout.specs.Blocks.{block}
 use Rattle.records.specs.declared.Store.{Store}
 use Rattle.records.specs.Records.{all, stores, walks, among}
 use Rattle.records.specs.Contents.{localPort, ioPort, there, allThere, storeSound}
-use Rattle.records.proofs.Counts.{and-left}
 use Rattle.records.proofs.Facts.{StoreFacts, store-facts}
 use Rattle.tables.specs.Views.{coresOf, linesOf, runningOf, registersOf}
 use Rattle.tables.specs.Sound.{sound}

@@ -8,10 +8,10 @@ use lib.Dec.{eqb}
 use borrow.Author.Tests.{eqb-true}
 use Rattle.word.specs.Word.{if_then_else_}
 use Rattle.word.proofs.Tests.{true-false, and-false}
+use Rattle.word.proofs.Truth.{and-left, and-right}
 use Rattle.records.specs.declared.Walk.{Walk}
 use Rattle.records.specs.declared.Flush.the-variants.{All, Page, Incomplete}
 use Rattle.records.specs.Records.{same, among, goes, staying}
-use Rattle.records.proofs.Counts.{and-left, and-right}
 use Rattle.tlb.specs.Walks.{walkVa, walkAsid, complete, pageKey}
 use Rattle.tlb.specs.inner.Flushes.{keep}
 use Rattle.tlb.proofs.Fields.{same-walk}

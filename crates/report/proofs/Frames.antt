@@ -12,6 +12,7 @@ use native.Mathlib.Omega.{arith}
 use borrow.Author.Tests.{ltb-true, ltb-false, eqb-true, eqb-false}
 use Rattle.word.specs.Word.{if_then_else_, bit, isSet}
 use Rattle.word.proofs.Tests.{or-false}
+use Rattle.word.proofs.Truth.{and-left, and-right, and-both}
 use Rattle.layout.specs.Layout as at
 use Rattle.layout.specs.Blocks.{block, withBlock}
 use Rattle.layout.proofs.Blocks.{with-long, with-header, with-block, with-other}
@@ -21,7 +22,6 @@ use Rattle.isa.specs.Interrupts.{user, deltaJisr, deltaRfe}
 use Rattle.records.specs.declared.Store.{Store}
 use Rattle.records.specs.declared.Walk.{Walk}
 use Rattle.records.specs.Records.{stores, walks, among}
-use Rattle.records.proofs.Counts.{and-left, and-right, and-both}
 use Rattle.records.proofs.Frame.{Alike, same-stores, same-walks}
 use Rattle.records.proofs.Laws.{After}
 use Rattle.tables.specs.Views.{coresOf, linesOf, registersOf, withRegisters, runningOf}

@@ -6,7 +6,6 @@ use Prim.Native.Nat.{ℕ, _^_}
 use native.Mathlib.Omega.{arith}
 use lib.Dec.{ltb}
 use borrow.Author.Tests.{ltb-true}
-use Rattle.records.proofs.Counts.{and-left, and-right}
 use Rattle.tables.specs.Views.{coresOf}
 use Rattle.steps.specs.declared.Answer.{Answer}
 use Rattle.steps.specs.declared.Step.{Step}
@@ -26,6 +25,7 @@ use Rattle.report.proofs.Drains.{buffer-case}
 use Rattle.report.proofs.Buses.{ipi-case, eoi-case}
 use Rattle.report.proofs.Resets.{init-case, start-case}
 use Rattle.report.proofs.Lines.{line-case, sample-case, deliver-case}
+use Rattle.word.proofs.Truth.{and-left, and-right}
 
 pub demand2 : Demand2
 unfolding byStep

@@ -16,11 +16,11 @@ use Rattle.word.specs.Bytes.{byte, bytesAt, put}
 use Rattle.word.proofs.Bytes.{put-length}
 use Rattle.word.proofs.Laws.{side}
 use Rattle.word.proofs.Tests.{true-false}
+use Rattle.word.proofs.Truth.{and-left, and-right, and-both}
 use Rattle.records.specs.declared.Walk.{Walk}
 use Rattle.layout.specs.Layout.{ports}
 use Rattle.records.specs.declared.Store.{Store}
 use Rattle.records.specs.Contents.{localPort, ioPort, there, allThere}
-use Rattle.records.proofs.Counts.{and-left, and-right, and-both}
 use Rattle.tlb.specs.declared.Request.{Request}
 use Rattle.tlb.specs.declared.Entry.the-variants.{Word, Missing}
 use Rattle.tlb.specs.declared.Faulting.{Faulting}

@@ -13,7 +13,7 @@ use borrow.Author.Tests.{leb-true, le-leb, ne-eqb, eq-eqb}
 use Rattle.word.specs.Word.{if_then_else_}
 use Rattle.layout.specs.Layout.{refusals}
 use Rattle.word.proofs.Tests.{true-false}
-use Rattle.records.proofs.Counts.{and-left, and-right, and-both}
+use Rattle.word.proofs.Truth.{and-left, and-right, and-both}
 use Rattle.tables.specs.Views.{refusalsOf}
 use Rattle.tables.specs.Sound.{sound}
 use Rattle.steps.specs.declared.Answer.{Answer}

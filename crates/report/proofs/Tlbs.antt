@@ -16,7 +16,6 @@ use Rattle.layout.specs.Layout as at
 use Rattle.layout.specs.Blocks.{block}
 use Rattle.records.specs.declared.Walk.{Walk}
 use Rattle.records.specs.Records.{walks, same, among, withWalk}
-use Rattle.records.proofs.Counts.{and-left, and-right}
 use Rattle.tables.specs.Views.{coresOf}
 use Rattle.tables.specs.Sound.{sound}
 use Rattle.tables.proofs.Lift.{core-long, core-sound}
@@ -28,6 +27,7 @@ use Rattle.tlb.specs.Walks.{baseAddress, pteA, pteP, ptea, entryAt, walkAsid, c
 use Rattle.tlb.specs.Steps.{userMode, runs, asidOf, originOf, extendable, tlbCreate, onExtend, tlbExtend, onAccessed, tlbAccessed}
 use Rattle.tlb.proofs.Fields.{same-walk, ptea-aligned, ptea-low}
 use Rattle.word.proofs.Words.{Words}
+use Rattle.word.proofs.Truth.{and-left, and-right, or-turn}
 use Rattle.ioapic.proofs.Blocks.{block-words}
 use Rattle.steps.specs.declared.Answer.the-variants.{Refused}
 use Rattle.steps.specs.declared.Step.{Step}
@@ -65,12 +65,6 @@ same-among v w l e p =
     subst (λ (x : Walk). among x l ≡ true)
     (same-walk (eqb-true (v .first) (w .first) (and-left (eqb (v .first) (w .first)) _ e)) (eqb-true (v .second) (w .second) (and-right (eqb (v .first) (w .first)) _ e))) p
 
-or-swap : (a b : Bool) → a || b ≡ b || a
-or-swap true true = refl
-or-swap true false = refl
-or-swap false true = refl
-or-swap false false = refl
-
 -- with one more
 pub add-among : (v : Walk) (l : List Walk) (w : Walk) → δtlb (λ x. among x l) (ΣTlb.addWalk v) w ≡ among w (withWalk v l)
 unfolding δtlb withWalk among
@@ -79,7 +73,7 @@ add-among v l w = go (among v l) refl (same v w) refl
     go : (h : Bool) → among v l ≡ h → (s : Bool) → same v w ≡ s → among w l || s ≡ among w (elim h [ true ↦ l | false ↦ v ∷ l ])
     go true p true q = ap (λ (b : Bool). b || true) (same-among v w l q p) ∙ sym (same-among v w l q p)
     go true p false q = or-false (among w l)
-    go false p s q = or-swap (among w l) s ∙ ap (λ (b : Bool). b || among w l) (sym q)
+    go false p s q = or-turn (among w l) s ∙ ap (λ (b : Bool). b || among w l) (sym q)
 
 -- ---- a walk that is to be added
 

@@ -1,33 +1,31 @@
 -- Laws of reach: tables lead into it, its cores' blocks are good, and it depends on those blocks and its tables alone.
 -- Assumes nothing.
 use mathlib.Core.Path.{_≡_, refl, sym, ap, ap₂, subst, _∙_}
-use mathlib.Core.Logic.{_⊎_, inl, inr, ⊎-elim, _≢_}
-use mathlib.Core.Bool.{Bool, true, false, _&&_, _||_, not, false≢true}
+use mathlib.Core.Bool.{Bool, true, _&&_}
 use mathlib.Core.List.{List, [], _∷_, _++_, map, flatMap}
-use Prim.Native.Nat.{ℕ, zero, suc, _+_, _-_, _*_, _/_, _%_, _^_, _<_, _≤_}
+use Prim.Native.Nat.{ℕ, zero, suc, _+_, _-_, _*_, _%_, _<_, _≤_}
 use native.Mathlib.Omega.{arith}
-use lib.ListN.{length, getD}
-use lib.Dec.{eqb, ltb, leb}
-use borrow.Author.Tests.{eqb-true, eq-eqb, le-leb}
+use lib.Dec.{eqb}
+use borrow.Author.Tests.{eq-eqb}
 use Rattle.word.specs.Word.{if_then_else_}
-use Rattle.layout.specs.Layout as at
 use Rattle.layout.specs.Blocks.{block}
 use Rattle.records.specs.declared.Walk.{Walk}
 use Rattle.records.specs.declared.Store.{Store}
 use Rattle.records.specs.Records.{all, stores, walks, walkIn, walkNumbers}
-use Rattle.records.specs.Contents.{storeSound, walkSound, allThere}
+use Rattle.records.specs.Contents.{storeSound, walkSound}
 use Rattle.tables.specs.Sound.{soundBlock}
 use Rattle.tables.proofs.Steps.{block-stores, block-walks}
 use Rattle.word.proofs.Words.{Words}
+use Rattle.word.proofs.Truth.{and-left, and-right, and-both}
 use Rattle.tlb.specs.declared.Entry.{Entry}
-use Rattle.tlb.specs.declared.Entry.the-variants.{Word, Missing}
+use Rattle.tlb.specs.declared.Entry.the-variants.{Word}
 use Rattle.tlb.specs.Walks.{walkLevel, walkR, walkBa, baseAddress, entryAt, pteaAt, pteP, pteR, pteBa, complete}
 use Rattle.tlb.specs.Steps.{userMode, originOf}
 use Rattle.tlb.proofs.Fields.{level-sound}
 use Rattle.store_buffer.specs.System.{sized, aligned}
-use Rattle.reach.specs.Lists.{range, has, select}
-use Rattle.reach.specs.Reach.{Pages, tablePages, reached, grantsWrite, anyRights, basesOf, storePages, namedBy, named, over, firstPages, secondPages, dataPages, writablePages, reach}
-use Rattle.reach.proofs.Lists.{tested, and-left, and-right, and-both, In, Each, if-both, in-left, in-right, in-here, in-there, in-flatMap, in-range, range-in, flatMap-same}
+use Rattle.reach.specs.Lists.{range, select}
+use Rattle.reach.specs.Reach.{tablePages, grantsWrite, anyRights, basesOf, storePages, namedBy, named, over, firstPages, secondPages, dataPages, writablePages, reach}
+use Rattle.reach.proofs.Lists.{In, Each, if-both, in-left, in-right, in-here, in-there, in-flatMap, in-range, range-in, flatMap-same}
 use Rattle.separation.proofs.Memory.{page, Fits, Agree, entryAt-same}
 use Rattle.separation.proofs.Good.{AtLevel, WalkOk, StoreOk, Good, Closed, base-page, entry-place}
 use Rattle.separation.proofs.Local.{aligned-fits}

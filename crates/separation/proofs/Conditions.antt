@@ -1,28 +1,29 @@
 -- What a verdict of yes says: its conditions, the sides' pages, and the machine where a list begins.
 -- Assumes nothing.
-use mathlib.Core.Path.{_≡_, refl, sym, ap, ap₂, subst, _∙_}
+use mathlib.Core.Path.{_≡_, refl, sym, ap, ap₂, _∙_}
 use mathlib.Core.Logic.{_⊎_, inl, inr, ⊎-elim}
 use mathlib.Core.Bool.{Bool, true, false, _&&_, _||_, not}
-use mathlib.Core.List.{List, [], _∷_, _++_}
+use mathlib.Core.List.{List, _++_}
 use Prim.Native.Nat.{ℕ, _/_, _%_, _<_, _≤_}
 use native.Mathlib.Omega.{arith}
 use lib.ListN.{length, getD}
 use Rattle.word.specs.Word.{if_then_else_, isSet}
+use Rattle.word.proofs.Truth.{and-left, and-right, or-cases, or-none-left, or-none-right}
 use Rattle.layout.specs.Layout.{pageBytes}
 use Rattle.layout.specs.Blocks.{block}
 use Rattle.records.specs.Records.{all}
 use Rattle.tables.specs.Views.{coresOf, pagesOf}
 use Rattle.tables.specs.Sound.{sound}
-use Rattle.tables.proofs.Lift.{header, core-fits, core-sound}
+use Rattle.tables.proofs.Lift.{header, core-sound}
 use Rattle.ioapic.proofs.Blocks.{block-words}
 use Rattle.tlb.specs.Walks.{set-d}
 use Rattle.tlb.specs.Steps.{userMode, runs}
-use Rattle.reach.specs.Lists.{range, has, select}
+use Rattle.reach.specs.Lists.{range, has}
 use Rattle.reach.specs.Reach.{Pages, tablePages, reached, reach, inMemory, members, isGroup}
 use Rattle.separation.specs.declared.Verdict.the-variants.{Yes, No, Refused}
 use Rattle.separation.specs.Apart.{apart, pagesApart, apartOn, running, rest, runsAsUser, disjoint, closed}
 use Rattle.separation.specs.Separation.{Machine, Given, verdict, Point, start, group, others, tableBit, writableBit, either, Framed}
-use Rattle.reach.proofs.Lists.{clash, and-left, and-right, or-cases, or-none-left, or-none-right, In, in-left, in-right, in-append, in-range, range-in, in-select, select-in, disjoint-in, all-in}
+use Rattle.reach.proofs.Lists.{clash, In, in-left, in-right, in-append, in-range, range-in, in-select, select-in, disjoint-in, all-in}
 use Rattle.separation.proofs.Memory.{page, Moved, still, free, marked, kept-refl}
 use Rattle.separation.proofs.Good.{Good, Low, table-reached, writable-reached}
 use Rattle.separation.proofs.Closing.{closed-reach, good-reach}

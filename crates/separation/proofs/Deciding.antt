@@ -13,6 +13,7 @@ use lib.Seq.{length-take-le}
 use lib.Dec.{eqb}
 use borrow.Author.Tests.{not-true, not-false}
 use Rattle.word.specs.Word.{isSet, flag, if_then_else_}
+use Rattle.word.proofs.Truth.{and-left, and-right, and-both, tested, and-true}
 use Rattle.layout.specs.Blocks.{block}
 use Rattle.records.specs.Records.{all}
 use Rattle.tables.specs.Views.{coresOf, pagesOf}
@@ -22,17 +23,13 @@ use Rattle.apic.specs.Vectors.{withBit}
 use Rattle.apic.proofs.Bits.{bit-same, bit-other}
 use Rattle.reach.specs.Lists.{range, has, select}
 use Rattle.reach.specs.Reach.{Pages, isGroup, members, tablePages, reached, reach, inMemory, mapByte, mapFor}
-use Rattle.reach.proofs.Lists.{tested, decided, clash, and-left, and-right, and-both, In, in-right, in-range, range-in, all-in, in-all, all-append, both-ways, has-append, select-same}
+use Rattle.reach.proofs.Lists.{decided, clash, In, in-right, in-range, range-in, all-in, in-all, all-append, both-ways, has-append, select-same}
 use Rattle.separation.specs.Apart.{running, rest, runsAsUser, disjoint, closed, pagesApart, apart, apartOn}
 use Rattle.separation.specs.declared.Verdict.the-variants.{Yes, No, Refused}
 use Rattle.separation.specs.inner.Sides.{passes, both, pageApart}
 use Rattle.separation.proofs.Mapped.{marked-is, byte-in, byte-table, byte-writable, reached-low}
 
 -- ---- tests of all
-
-and-true : (a : Bool) → a && true ≡ a
-and-true true = refl
-and-true false = refl
 
 -- one more number
 pub all-next : (p : ℕ → Bool) (i : ℕ) → all p (range (i + 1)) ≡ all p (range i) && p i

@@ -1,36 +1,34 @@
 -- What holds of a core's block and of the tables within a list, for the pages S of the core's side.
 -- Assumes nothing.
-use mathlib.Core.Path.{_≡_, refl, sym, ap, ap₂, subst, _∙_}
-use mathlib.Core.Logic.{_⊎_, inl, inr, ⊎-elim, _≢_}
-use mathlib.Core.Bool.{Bool, true, false, _&&_, _||_, not, false≢true}
-use mathlib.Core.List.{List, [], _∷_, _++_, map}
-use Prim.Native.Nat.{ℕ, zero, suc, _+_, _-_, _*_, _/_, _%_, _^_, _<_, _≤_}
+use mathlib.Core.Path.{_≡_, sym, ap, subst, _∙_}
+use mathlib.Core.Logic.{_⊎_, ⊎-elim, _≢_}
+use mathlib.Core.Bool.{Bool, true, false, _&&_, false≢true}
+use mathlib.Core.List.{List, [], _∷_, _++_}
+use Prim.Native.Nat.{ℕ, zero, suc, _+_, _-_, _*_, _/_, _^_, _<_, _≤_}
 use native.Mathlib.Omega.{arith}
-use lib.ListN.{length, getD, take, drop}
+use lib.ListN.{getD, drop}
 use lib.Seq.{getD-take, getD-drop}
-use lib.Dec.{eqb, ltb, leb}
-use borrow.Author.Tests.{eqb-true, leb-true, ltb-true, lt-leb, le-ltb, lt-ltb}
+use lib.Dec.{ltb}
+use borrow.Author.Tests.{lt-leb}
 use Rattle.word.specs.Word.{isSet}
 use Rattle.word.specs.Bytes.{bytesAt}
 use Rattle.word.proofs.Bytes.{Bytes}
+use Rattle.word.proofs.Truth.{or-cases}
 use Rattle.layout.specs.Layout as at
 use Rattle.records.specs.declared.Walk.{Walk}
 use Rattle.records.specs.declared.Store.{Store}
 use Rattle.records.specs.Records.{stores, walks, among, same, withWalk, staying}
 use Rattle.records.specs.Contents.{localPort, ioPort}
 use Rattle.records.proofs.Facts.{same-walk}
-use Rattle.isa.specs.declared.registers.Registers.{Registers}
 use Rattle.tables.specs.Views.{registersOf}
-use Rattle.tlb.specs.declared.Entry.{Entry}
-use Rattle.tlb.specs.declared.Entry.the-variants.{Word, Missing}
-use Rattle.tlb.specs.Walks.{walkLevel, walkR, walkBa, index, ptea, pteaAt, entryAt, pteP, pteR, pteBa, baseAddress}
+use Rattle.tlb.specs.declared.Entry.the-variants.{Word}
+use Rattle.tlb.specs.Walks.{walkLevel, walkR, walkBa, ptea, pteaAt, entryAt, pteP, pteR, pteBa, baseAddress}
 use Rattle.tlb.specs.Steps.{userMode, originOf}
 use Rattle.tlb.proofs.Entries.{entry-in, entry-high, same-ba, same-p, same-r}
 use Rattle.tlb.proofs.Steps.{entry-word}
 use Rattle.tlb.proofs.Fields.{index-lt, ptea-at, ptea-page}
-use Rattle.reach.specs.Lists.{has}
 use Rattle.reach.specs.Reach.{Pages, tablePages, reached, grantsWrite}
-use Rattle.reach.proofs.Lists.{tested, and-left, and-right, or-cases, In, Each, in-left, in-right}
+use Rattle.reach.proofs.Lists.{In, Each, in-left, in-right}
 use Rattle.separation.proofs.Memory.{page, Fits, Kept, kept-still}
 
 -- the page of a walk is in the set that its level asks for

@@ -10,6 +10,7 @@ use lib.ListN.{length, getD}
 use lib.Dec.{eqb, leb}
 use borrow.Author.Tests.{eqb-true}
 use Rattle.word.specs.Word.{if_then_else_, plus}
+use Rattle.word.proofs.Truth.{and-left, and-right, or-cases, tested}
 use Rattle.layout.specs.Layout as at
 use Rattle.decode.specs.declared.Instruction.{Instruction}
 use Rattle.decode.specs.Table.{decoded}
@@ -44,7 +45,7 @@ use Rattle.cores.specs.Walks.{planned}
 use Rattle.cores.specs.Buffer.{onOldest, bufferStep}
 use Rattle.cores.proofs.Accesses.{access-aligned, cas-width, word-aligned}
 use Rattle.reach.specs.Reach.{Pages, reached, grantsWrite}
-use Rattle.reach.proofs.Lists.{tested, and-left, and-right, or-cases, if-same, In, Each}
+use Rattle.reach.proofs.Lists.{if-same, In, Each}
 use Rattle.separation.proofs.Memory as memory
 use Rattle.separation.proofs.Memory.{page, Agree, Fits, inside-same, all-pages, entryAt-same}
 use Rattle.separation.proofs.Good.{AtLevel, WalkOk, StoreOk, Good, Low, low-local, low-io, among-each, table-reached, data-reached, writable-reached, walk-table, walk-page, walk-fits, spr-word}

@@ -1,8 +1,7 @@
 -- The map that Reach fills, and the lists that it is defined by.
 -- Assumes nothing.
-use mathlib.Core.Path.{_≡_, refl, sym, ap, ap₂, subst, _∙_}
-use mathlib.Core.Logic.{_⊎_, inl, inr, ⊎-elim, _≢_}
-use mathlib.Core.Bool.{Bool, true, false, _&&_, _||_, not, false≢true}
+use mathlib.Core.Path.{_≡_, refl, sym, ap, _∙_}
+use mathlib.Core.Bool.{Bool, true, false, _||_, not}
 use mathlib.Core.List.{List, [], _∷_, _++_, map}
 use Prim.Native.Nat.{ℕ, zero, suc, _+_, _-_, _*_, _/_, _%_, _^_, _<_, _≤_}
 use native.Mathlib.Omega.{arith}
@@ -11,14 +10,14 @@ use native.Mathlib.Nat.{div-eq-of-lt, pow-le-pow-right}
 use lib.ListN.{length, getD, length-append, length-map, List·getD-append, List·getD-eq-default}
 use lib.Seq.{getD-at}
 use lib.Dec.{eqb, ltb, leb}
-use borrow.Author.Tests.{eqb-true, eqb-false, ne-eqb, eq-eqb, ltb-true, ltb-false, leb-true, leb-false, not-true}
-use Rattle.word.specs.Word.{flag, isSet, if_then_else_}
+use borrow.Author.Tests.{ltb-true, ltb-false, leb-true, leb-false}
+use Rattle.word.specs.Word.{flag, isSet}
+use Rattle.word.proofs.Truth.{and-right, tested}
 use Rattle.records.proofs.Views.{map-append}
 use Rattle.tables.specs.Views.{pagesOf}
 use Rattle.reach.specs.Lists.{range, has, select}
-use Rattle.records.specs.Records.{all}
 use Rattle.reach.specs.Reach.{Pages, tablePages, reached, reach, inMemory, mapByte, mapFor, members, isGroup}
-use Rattle.reach.proofs.Lists.{tested, decided, clash, and-left, and-right, In, in-none, in-left, in-right, in-append, in-range, range-in, in-select, select-in, select-append, select-same, all-in, has-append}
+use Rattle.reach.proofs.Lists.{decided, clash, In, in-left, in-right, range-in, select-append, select-same, all-in, has-append}
 
 -- ---- bytes of the map
 

@@ -1,23 +1,20 @@
 -- Memory: agreement on some pages, and what writes change.
 -- Assumes nothing.
-use mathlib.Core.Path.{_≡_, refl, sym, ap, ap₂, subst, _∙_}
-use mathlib.Core.Logic.{_⊎_, inl, inr, ⊎-elim, _≢_}
-use mathlib.Core.Bool.{Bool, true, false}
-use mathlib.Core.List.{List, [], _∷_, _++_, map}
-use Prim.Native.Nat.{ℕ, zero, suc, _+_, _-_, _*_, _/_, _%_, _^_, _<_, _≤_, min}
+use mathlib.Core.Path.{_≡_, refl, sym, ap, subst, _∙_}
+use mathlib.Core.List.{List}
+use Prim.Native.Nat.{ℕ, zero, suc, _+_, _-_, _*_, _/_, _%_, _<_, _≤_, min}
 use native.Mathlib.Omega.{arith}
-use native.Mathlib.Nat.{mod-lt}
 use native.Mathlib.Decide.{ℕ-discrete}
 use lib.ListN.{length, getD, set, take, drop, length-set, length-take, length-drop}
 use lib.Seq.{getD-set-same, getD-set-other, set-out, getD-take, getD-drop, ext-getD}
-use lib.Dec.{eqb, ltb, leb}
+use lib.Dec.{ltb, leb}
 use borrow.Author.Tests.{ltb-true, ltb-false, lt-ltb, le-ltb, le-leb, lt-leb}
-use Rattle.word.specs.Word.{if_then_else_}
 use Rattle.word.specs.Bytes.{put, bytesAt}
-use Rattle.word.proofs.Bytes.{Bytes, put-length}
+use Rattle.word.proofs.Bytes.{Bytes}
+use Rattle.word.proofs.Truth.{tested}
 use Rattle.tlb.specs.Walks.{set-d, entryAt}
 use Rattle.tlb.proofs.Entries.{set-d-twice, mark-memory, entry-same}
-use Rattle.reach.proofs.Lists.{tested, decided, clash, In, map-same, same-map}
+use Rattle.reach.proofs.Lists.{decided, clash, In}
 
 abbrev pub page : ℕ → ℕ
 page a = a / 4096

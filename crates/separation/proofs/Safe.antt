@@ -12,6 +12,7 @@ use borrow.Author.Tests.{eqb-true, leb-true, eq-eqb, not-false}
 use Rattle.word.specs.Word.{if_then_else_, flag}
 use Rattle.word.specs.Bytes.{bytesAt}
 use Rattle.word.proofs.Bytes.{Bytes}
+use Rattle.word.proofs.Truth.{and-left, and-right, or-cases, or-first, or-none-left, or-none-right}
 use Rattle.decode.specs.declared.Instruction.{Instruction}
 use Rattle.decode.specs.Table.{decoded}
 use Rattle.decode.specs.Fields.{rs, rd, rt}
@@ -63,7 +64,7 @@ use Rattle.cores.proofs.Sounds.{registersAfter}
 use Rattle.cores.proofs.Accesses.{access-aligned, cas-width}
 use Rattle.reach.specs.Reach.{Pages, tablePages, grantsWrite}
 use Rattle.separation.specs.Separation.{isInterrupt}
-use Rattle.reach.proofs.Lists.{clash, and-left, and-right, or-cases, or-left, or-none-left, or-none-right, if-both, In, Each}
+use Rattle.reach.proofs.Lists.{clash, if-both, In, Each}
 use Rattle.separation.proofs.Memory.{page, Fits, same-page, Kept, kept-refl, put-free, put-mark}
 use Rattle.separation.proofs.Good.{AtLevel, WalkOk, StoreOk, Good, Closed, Low, low-local, low-io, writable-reached, walk-table, walk-page}
 use Rattle.cores.proofs.Asked.{Judges, judges-yield, judges-ask, judges-test, judges-if, judges-settle}
@@ -187,7 +188,7 @@ module _ (S : Pages) (L : Low S) (m b : List ℕ) (bs : Bytes m) (G : Good S b) 
       performed-safe a x h f =
           if-both (Safe S m b) (load c) _ _ (λ _. load-safe (loaded (stores b) (X .ports) m a (d c)))
           (λ e. if-both (Safe S m b) (store c) _ _
-          (λ g. store-safe (storedFrom (registersOf b) c w a) (allThere (d c) (length m) a) (record { writable = h (or-left (store c) (cas c) g); fits = f }))
+          (λ g. store-safe (storedFrom (registersOf b) c w a) (allThere (d c) (length m) a) (record { writable = h (or-first (store c) (cas c) g); fits = f }))
           (λ g. cas-safe a (reads 4 (memoryByte m) a) (h (⊎-elim (λ y. clash (load c) y e) (λ y. y) (or-cases (load c) _ x))) (subst (λ (k : ℕ). Fits a k) (cas-width c x e g) f)))
 
       address-safe : (a : ℕ) → isAccess c ≡ true → (store c || cas c ≡ true → In (page a) (S .writables)) → a % 4 ≡ ea c (registersOf b) w % 4 → Judges (Safe S m b) (onAddress X m c w a)

@@ -7,13 +7,14 @@ use Prim.Native.Nat.{ℕ, _≤_, _<_}
 use native.Mathlib.Omega.{arith}
 use lib.ListN.{take}
 use Rattle.word.specs.Word.{if_then_else_, isSet}
+use Rattle.word.proofs.Truth.{tested}
 use Rattle.layout.specs.Blocks.{block}
 use Rattle.tables.specs.Views.{coresOf, pagesOf}
 use Rattle.reach.specs.Lists.{range, has, select}
 use Rattle.reach.specs.Reach.{Pages, reached, reach, inMemory, members}
 use Rattle.separation.specs.declared.Verdict.the-variants.{Yes}
 use Rattle.separation.specs.Separation.{Machine, Given, verdict, Point, View, start, called, next, afterCalls, may, admitted, isOwn, pageOf, seen, observed, observes, group, reachable, Alike, Framed, Demand3}
-use Rattle.reach.proofs.Lists.{tested, In, in-range, in-select, select-in, same-map}
+use Rattle.reach.proofs.Lists.{In, in-range, in-select, select-in, same-map}
 use Rattle.separation.proofs.TwoLists.{trace, allowed, two-lists, kept-after}
 use Rattle.separation.proofs.TwoLists as lists
 use Rattle.separation.proofs.Memory.{page, Agree, page-same}

@@ -1,14 +1,14 @@
 -- Two lists of steps over any step function: what one party observes.
 -- Assumes nothing.
 use mathlib.Core.Path.{_≡_, refl, sym, ap, ap₂, subst, _∙_}
-use mathlib.Core.Bool.{Bool, true, false, _&&_, false≢true}
-use mathlib.Core.List.{List, [], _∷_, _++_}
+use mathlib.Core.Bool.{Bool, true, false, _&&_}
+use mathlib.Core.List.{List, [], _∷_}
 use Prim.Native.Nat.{ℕ, zero, suc}
 use lib.ListN.{take}
 use native.Mathlib.Omega.{arith}
 use Rattle.word.specs.Word.{if_then_else_}
+use Rattle.word.proofs.Truth.{and-left, and-right, tested}
 use Rattle.reach.specs.Lists.{select}
-use Rattle.reach.proofs.Lists.{tested, and-left, and-right, clash}
 
 -- X states, S steps, A answers, O observations
 module _ {X S A O : Type 0} (next : X → S → X) (answer : X → S → A) (see : X → O) (mine : S → Bool) where

@@ -1,9 +1,9 @@
 -- The invariant of a machine within a list, relative to the machine that the list began with, and what steps do to two machines.
 -- Assumes nothing.
-use mathlib.Core.Path.{_≡_, refl, sym, ap, ap₂, subst, _∙_}
-use mathlib.Core.Logic.{_⊎_, inl, inr, ⊎-elim, _≢_}
-use mathlib.Core.Bool.{Bool, true, false, _&&_, _||_, not}
-use mathlib.Core.List.{List, [], _∷_, _++_, map}
+use mathlib.Core.Path.{_≡_, sym, subst, _∙_}
+use mathlib.Core.Logic.{_⊎_, ⊎-elim, _≢_}
+use mathlib.Core.Bool.{Bool, true, false, not}
+use mathlib.Core.List.{List, _++_}
 use Prim.Native.Nat.{ℕ, _<_}
 use native.Mathlib.Omega.{arith}
 use native.Mathlib.Decide.{ℕ-discrete}
@@ -12,19 +12,19 @@ use lib.Dec.{eqb, leb}
 use borrow.Author.Tests.{eqb-false, not-true}
 use Rattle.word.specs.Word.{if_then_else_, isSet}
 use Rattle.word.proofs.Bytes.{Bytes}
+use Rattle.word.proofs.Truth.{and-left, and-right, tested}
 use Rattle.layout.specs.Blocks.{block}
 use Rattle.tables.specs.Views.{coresOf}
 use Rattle.tables.specs.Sound.{sound}
-use Rattle.steps.specs.declared.Answer.{Answer}
 use Rattle.steps.specs.Form.{word}
-use Rattle.reach.specs.Lists.{has, select}
+use Rattle.reach.specs.Lists.{select}
 use Rattle.reach.specs.Reach.{Pages, tablePages, reached}
-use Rattle.separation.specs.Separation.{Machine, Point, View, called, isInterrupt, next, may, isOwn, seen}
-use Rattle.reach.proofs.Lists.{tested, decided, clash, and-left, and-right, In, in-left, in-right, in-append, select-in, map-same}
+use Rattle.separation.specs.Separation.{Point, called, isInterrupt, next, may, isOwn, seen}
+use Rattle.reach.proofs.Lists.{decided, clash, In, in-left, in-right, in-append, select-in, map-same}
 use Rattle.separation.proofs.TwoLists.{Keeps}
-use Rattle.separation.proofs.Memory.{page, Agree, Kept, kept-trans, kept-more, kept-agree, agree-sym, agree-trans, bytes-same}
+use Rattle.separation.proofs.Memory.{Agree, Kept, kept-trans, kept-more, kept-agree, agree-sym, agree-trans, bytes-same}
 use Rattle.separation.proofs.Good.{Good, Closed, Low, closed-kept, table-reached, writable-reached}
-use Rattle.machine.proofs.Locality.{Law, plain-form}
+use Rattle.machine.proofs.Locality.{plain-form}
 use Rattle.separation.proofs.Facts.{Steps, steps, law, Matched, matched}
 
 -- the pages of the two sides do not meet: G the group's, R the rest's

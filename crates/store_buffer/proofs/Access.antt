@@ -12,7 +12,7 @@ use lib.Dec.{eqb}
 use borrow.Author.Tests.{lt-ltb, le-ltb, eqb-true}
 use Rattle.word.specs.Word.{plus}
 use Rattle.word.specs.Bytes.{byte, bytesAt}
-use Rattle.records.proofs.Counts.{and-left, and-right}
+use Rattle.word.proofs.Truth.{and-left, and-right}
 use Rattle.store_buffer.specs.declared.Read.{Read}
 use Rattle.store_buffer.specs.declared.Read.the-variants.{There, Nowhere}
 use Rattle.store_buffer.specs.System.{join, reads, memoryByte, sized, aligned}

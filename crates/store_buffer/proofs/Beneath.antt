@@ -13,9 +13,9 @@ use borrow.Author.Tests.{ltb-true, leb-true}
 use Rattle.word.specs.Word.{if_then_else_, minus}
 use Rattle.word.specs.Bytes.{byte}
 use Rattle.word.proofs.Laws.{ltb-same, leb-same}
+use Rattle.word.proofs.Truth.{and-left, and-right}
 use Rattle.layout.specs.Layout.{ports, localPorts, ioPorts}
 use Rattle.records.specs.Contents.{localPort, ioPort}
-use Rattle.records.proofs.Counts.{and-left, and-right}
 use Rattle.store_buffer.specs.declared.Read.{Read}
 use Rattle.store_buffer.specs.declared.Read.the-variants.{There}
 use Rattle.store_buffer.specs.Buffer.{sbhit}

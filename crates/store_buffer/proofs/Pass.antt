@@ -11,6 +11,7 @@ use lib.ListN.{length, getD}
 use borrow.Author.Tests.{eq-eqb, ne-eqb}
 use Rattle.word.specs.Word.{if_then_else_, plus}
 use Rattle.word.proofs.Laws.{side}
+use Rattle.word.proofs.Truth.{or-true}
 use Rattle.records.specs.declared.Store.{Store}
 use Rattle.layout.specs.Layout.{recordAt, storeHead}
 use Rattle.records.specs.Records.{chain, stores, storeNumbers, storeIn, linked}
@@ -42,10 +43,6 @@ fresh-differs i (At j) f = ne-eqb i j (λ e. omega (arith, f j refl))
 fresh-differs i Miss f = refl
 
 -- ---- a test of some number
-
-pub or-true : (t : Bool) → t || true ≡ true
-or-true true = refl
-or-true false = refl
 
 pub some-intro : (k : ℕ) (p : ℕ → Bool) (j : ℕ) → j < k → p j ≡ true → some k p ≡ true
 unfolding some

@@ -10,10 +10,10 @@ use lib.Dec.{eqb}
 use borrow.Author.Tests.{ltb-true}
 use Rattle.word.specs.Word.{if_then_else_, plus, minus}
 use Rattle.word.specs.Bytes.{byte}
+use Rattle.word.proofs.Truth.{and-left, and-right, and-both}
 use Rattle.records.specs.declared.Store.{Store}
 use Rattle.records.specs.Records.{all, stores, storeNumbers, storeIn, noStore, linked}
 use Rattle.records.specs.Contents.{storeSound, soundRecords}
-use Rattle.records.proofs.Counts.{and-left, and-right, and-both}
 use Rattle.records.proofs.Along.{stores-small}
 use Rattle.records.proofs.Fold.{number-low, at-map, stores-length}
 use Rattle.records.proofs.Contents.{parts-of}

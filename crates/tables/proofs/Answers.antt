@@ -9,9 +9,10 @@ use native.Mathlib.Decide.{decLt}
 use lib.Dec.{eqb, ltb, leb}
 use borrow.Author.Tests.{lt-ltb, le-ltb, le-leb, lt-leb, leb-true, eq-eqb, ne-eqb}
 use Rattle.layout.specs.Layout as at
-use Rattle.records.proofs.Counts.{either, and-right}
+use Rattle.records.proofs.Counts.{either}
 use Rattle.tables.specs.Sound.{upTo}
 use Rattle.tables.specs.Make.{refusal, wholePages}
+use Rattle.word.proofs.Truth.{and-right}
 
 leb-not : (a b : ℕ) → leb a b ≡ not (ltb b a)
 leb-not a b = either (decLt b a) (λ h. rw (lt-leb a b h, lt-ltb b a h)) (λ h. rw (le-leb a b (omega arith), le-ltb b a (omega arith)))

@@ -11,11 +11,12 @@ use lib.Dec.{eqb, leb}
 use borrow.Author.Tests.{eq-eqb, eqb-true, lt-ltb, ltb-true, le-leb, leb-true}
 use Rattle.layout.specs.Layout as at
 use Rattle.records.specs.Contents.{soundRecords}
-use Rattle.records.proofs.Counts.{and-left, and-right, and-both, either}
+use Rattle.records.proofs.Counts.{either}
 use Rattle.records.proofs.Whole.{fails}
 use Rattle.layout.specs.Blocks.{block}
 use Rattle.tables.specs.Views.{coresOf, pagesOf, linesOf}
 use Rattle.tables.specs.Sound.{zeroFrom, upTo, soundWords, soundBlock, soundBlocks, soundHeader, sound}
+use Rattle.word.proofs.Truth.{and-left, and-right, and-both}
 
 -- ---- the header
 

@@ -13,11 +13,12 @@ use lib.Dec.{eqb}
 use borrow.Author.Tests.{eq-eqb, eqb-true, lt-ltb, ltb-true, le-leb, leb-true}
 use Rattle.layout.specs.Layout as at
 use Rattle.records.specs.Records.{stores, walks}
-use Rattle.records.proofs.Counts.{either, and-left, and-right, and-both}
+use Rattle.records.proofs.Counts.{either}
 use Rattle.records.proofs.Frame.{Alike, set-alike, same-stores, same-walks, same-sound}
 use Rattle.tables.specs.Views.{runningOf, sipirrOf, sipivectOf, initrrOf, registersOf}
 use Rattle.tables.specs.Sound.{zeroFrom, isFlag, soundWords, soundBlock}
 use Rattle.tables.proofs.Parts.{words-of, records-of, of-parts}
+use Rattle.word.proofs.Truth.{and-left, and-right, and-both}
 
 -- ---- sound words as facts
 

@@ -13,13 +13,14 @@ use borrow.Author.Tests.{eqb-true, leb-true}
 use Rattle.layout.specs.Layout as at
 use Rattle.records.specs.Records.{chain, count, each, all, stores, walks, among, differing, linked}
 use Rattle.records.specs.Contents.{soundRecords, storeSound, walkSound}
-use Rattle.records.proofs.Counts.{either, and-left, and-right}
+use Rattle.records.proofs.Counts.{either}
 use Rattle.layout.specs.Blocks.{block}
 use Rattle.tables.specs.Views.{registersOf, runningOf}
 use Rattle.tables.specs.Sound.{upTo, soundWords, soundBlock, sound}
 use Rattle.tables.specs.Make.{chained, madeRunning, madeBlock, madeBlocks, made, wholePages, refusal}
 use Rattle.tables.proofs.Fresh.{block-long, blocks-long}
 use Rattle.tables.proofs.Parts.{of-header, blocks-intro, of-sound}
+use Rattle.word.proofs.Truth.{and-left, and-right}
 
 made-block-sound : (n k : ℕ) → soundBlock n (madeBlock k) ≡ true
 unfolding soundBlock soundWords soundRecords madeBlock chained linked stores walks chain count each all differing among storeSound walkSound

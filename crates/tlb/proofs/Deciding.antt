@@ -3,19 +3,16 @@
 use mathlib.Core.Path.{_≡_, sym, ap, _∙_}
 use mathlib.Core.Bool.{Bool, true, false, not, _&&_}
 use mathlib.Core.List.{List}
-use Prim.Native.Nat.{ℕ, _+_, _/_, _%_, _^_, _≤_}
+use Prim.Native.Nat.{ℕ, _/_, _%_, _^_}
 use native.Mathlib.Omega.{arith}
-use lib.ListN.{length}
 use lib.Dec.{eqb}
-use borrow.Author.Tests.{leb-true, not-true}
+use borrow.Author.Tests.{not-true}
 use Rattle.word.specs.Word.{isSet}
-use Rattle.word.specs.Bytes.{put}
+use Rattle.word.proofs.Truth.{and-left, and-right}
 use Rattle.records.specs.declared.Walk.{Walk}
-use Rattle.records.specs.Records.{among, addWalk}
-use Rattle.records.proofs.Counts.{and-left, and-right}
+use Rattle.records.specs.Records.{among}
 use Rattle.tlb.specs.declared.Entry.{Entry}
 use Rattle.tlb.specs.declared.Entry.the-variants.{Word, Missing}
-use Rattle.tlb.specs.declared.Decision.{Decision}
 use Rattle.tlb.specs.declared.Decision.the-variants.{Refused, Adds, Marks}
 use Rattle.tlb.specs.Walks.{complete, walkAsid, pteA, pteP, ptea, wext, wextFault, winit, set-d}
 use Rattle.tlb.specs.Steps.{tlbCreate, tlbExtend, tlbAccessed, extendable, onExtend, onAccessed}

@@ -8,8 +8,8 @@ use lib.Dec.{eqb, leb}
 use borrow.Author.Tests.{eq-eqb, ne-eqb, eqb-true, eqb-false, leb-true, le-leb, lt-ltb}
 use Rattle.records.specs.declared.Walk.{Walk}
 use Rattle.records.specs.Contents.{walkSound}
-use Rattle.records.proofs.Counts.{and-left, and-both}
 use Rattle.tlb.specs.Walks.{walkVa, walkAsid, walkLevel, walkR, walkBa, walkOf, index, ptea, pteP, pteR, pteBa, complete, winit, wext}
+use Rattle.word.proofs.Truth.{and-left, and-both}
 
 -- two walks with equal words
 pub same-walk : {v w : Walk} → v .first ≡ w .first → v .second ≡ w .second → v ≡ w

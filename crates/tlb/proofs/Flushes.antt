@@ -8,10 +8,10 @@ use native.Mathlib.Omega.{arith}
 use lib.Dec.{eqb}
 use borrow.Author.Tests.{eq-eqb, eqb-true}
 use Rattle.word.specs.Word.{if_then_else_}
+use Rattle.word.proofs.Truth.{and-left, and-right, and-both}
 use Rattle.records.specs.declared.Walk.{Walk}
 use Rattle.records.specs.declared.Flush.the-variants.{All, Page, Incomplete}
 use Rattle.records.specs.Records.{goes, staying}
-use Rattle.records.proofs.Counts.{and-left, and-right, and-both}
 use Rattle.tlb.specs.Walks.{walkVa, walkAsid, complete, pageKey}
 use Rattle.tlb.specs.inner.Flushes.{keep, pageFlushed, incompleteFlushed}
 

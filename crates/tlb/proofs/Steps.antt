@@ -1,28 +1,26 @@
 -- Laws of the TLB's own steps: what an accepted one has shown, that what it adds is sound, and what it writes.
 -- Assumes nothing.
-use mathlib.Core.Path.{_≡_, refl, sym, ap, ap₂, subst, _∙_}
+use mathlib.Core.Path.{_≡_, refl, subst}
 use mathlib.Core.Bool.{Bool, true, false, _&&_, _||_, not}
 use mathlib.Core.List.{List, [], _∷_}
 use Prim.Native.Nat.{ℕ, _+_, _^_, _≤_, _<_}
 use native.Mathlib.Omega.{arith}
-use lib.ListN.{length, getD, set}
+use lib.ListN.{length}
 use lib.Dec.{eqb, leb}
-use borrow.Author.Tests.{eqb-true, leb-true, le-leb, not-true}
+use borrow.Author.Tests.{eqb-true, leb-true, not-true}
 use Rattle.word.specs.Word.{if_then_else_}
-use Rattle.word.specs.Bytes.{bytesAt, put}
+use Rattle.word.specs.Bytes.{bytesAt}
 use Rattle.word.proofs.Bytes.{Bytes, bytes-lt}
+use Rattle.word.proofs.Truth.{and-left, and-right}
 use Rattle.records.specs.declared.Walk.{Walk}
 use Rattle.records.specs.Records.{all, same, among}
 use Rattle.records.specs.Contents.{walkSound}
-use Rattle.records.proofs.Counts.{and-left, and-right}
 use Rattle.tlb.specs.declared.Entry.{Entry}
 use Rattle.tlb.specs.declared.Entry.the-variants.{Word, Missing}
-use Rattle.tlb.specs.declared.Decision.{Decision}
 use Rattle.tlb.specs.declared.Decision.the-variants.{Refused, Adds, Marks}
-use Rattle.tlb.specs.Walks.{walkAsid, pteA, pteP, ptea, entryAt, complete, winit, wext, wextFault, set-d}
+use Rattle.tlb.specs.Walks.{pteA, pteP, ptea, entryAt, complete, winit, wext, wextFault, set-d}
 use Rattle.tlb.specs.Steps.{tlbCreate, extendable, onExtend, tlbExtend, onAccessed, tlbAccessed}
-use Rattle.tlb.proofs.Fields.{same-walk, winit-sound, wext-sound}
-use Rattle.tlb.proofs.Entries.{mark-memory}
+use Rattle.tlb.proofs.Fields.{same-walk}
 
 -- two decisions that are not the same
 refused-adds : {n : ℕ} {w : Walk} → Refused n ≡ Adds w → ⊥

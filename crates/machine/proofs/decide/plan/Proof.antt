@@ -8,7 +8,7 @@ use lib.Dec.{ltb}
 use Prim.Native.Nat.{_^_}
 use borrow.Author.Tests.{ltb-true}
 use Rattle.word.proofs.Tests.{true-false}
-use Rattle.records.proofs.Counts.{and-left, and-right}
+use Rattle.word.proofs.Truth.{and-left, and-right}
 use Rattle.tables.specs.Views.{coresOf}
 use Rattle.machine.specs.Decide.{byStep}
 use Rattle.machine.specs.inner.Split.{isPlanned}
