@@ -10,7 +10,7 @@ use lib.ListN.{getD, set, length, length-set}
 use lib.Seq.{getD-set-other}
 use lib.Dec.{eqb}
 use borrow.Author.Tests.{ltb-true}
-use Rattle.word.specs.Word.{if_then_else_, sll}
+use Rattle.word.specs.Word.{if_then_else_, sll, withBit}
 use Rattle.word.proofs.Words.{Words, set-case, set-below}
 use Rattle.layout.specs.Layout.{running, sipirr, sipivect, initrr, eoipending}
 use Rattle.apic.specs.declared.vectors.Found.{Found}
@@ -18,10 +18,10 @@ use Rattle.apic.specs.declared.vectors.Found.the-variants.{Vector, None}
 use Rattle.apic.specs.declared.local.Kind.{Kind}
 use Rattle.apic.specs.declared.local.Kind.the-variants.{Fixed, Init, Startup}
 use Rattle.apic.specs.declared.active.Ipi.{Ipi}
-use Rattle.apic.specs.Vectors.{bitAt, withBit, withVector, lowest, marked, isVector}
+use Rattle.apic.specs.Vectors.{bitAt, withVector, lowest, marked, isVector}
 use Rattle.apic.specs.LocalApic.{portAt, icr, eoi, isr, irr, idOf, eoiWritten, portWritten, startup, init, received, onJisr, onRfe}
 use Rattle.apic.specs.Active.{idle, aimed, receivedBy, initCore, startCore}
-use Rattle.apic.proofs.Bits.{put-lt}
+use Rattle.word.proofs.Bits.{put-below}
 use Rattle.apic.proofs.Least.{least-vector}
 
 -- ---- what a step leaves; P tells the words that are not its own
@@ -86,7 +86,7 @@ module _ (b : List ℕ) where
   unfolding withVector
   kept-vector p v x l h hv hx =
       port b (p + v / 32) (withBit (getD b (p + v / 32) 0) (v % 32) x) (omega arith) (omega arith)
-      (λ w. put-lt (getD b (p + v / 32) 0) (v % 32) x (w (p + v / 32)) (omega arith) hx)
+      (λ w. put-below 32 (getD b (p + v / 32) 0) (v % 32) x (w (p + v / 32)) (omega arith) hx)
 
   marked-case : (p : ℕ) (f : Found) (x : ℕ) → 72 ≤ p → p + 8 ≤ 112 → isVector f ≡ true → x < 2 → Kept Passive b (marked b p f x)
   marked-case p None x l h hf hx = kept-all Passive b
@@ -142,7 +142,7 @@ module _ (b : List ℕ) where
   pub kept-idle : Kept Passive b (idle b)
   unfolding idle
   kept-idle =
-      port b icr (withBit (getD b icr 0) 12 0) (omega arith) (omega arith) (λ w. put-lt (getD b icr 0) 12 0 (w icr) (omega arith) (omega arith))
+      port b icr (withBit (getD b icr 0) 12 0) (omega arith) (omega arith) (λ w. put-below 32 (getD b icr 0) 12 0 (w icr) (omega arith) (omega arith))
 
   pub kept-reached : (m : Ipi) (own : Bool) → m .vect < 256 → Kept Passive b (receivedBy m own b)
   unfolding receivedBy

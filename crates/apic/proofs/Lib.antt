@@ -1,5 +1,3 @@
-pub mod Bits
-pub mod Bytes
 pub mod Least
 pub mod Words
 pub mod Events

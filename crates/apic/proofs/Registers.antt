@@ -9,12 +9,12 @@ use lib.ListN.{getD, set, length, length-set}
 use lib.Seq.{getD-set-same, getD-set-other}
 use lib.Dec.{eqb}
 use borrow.Author.Tests.{eqb-true, eqb-false}
-use Rattle.word.specs.Word.{bit}
+use Rattle.word.specs.Word.{bit, withBit}
 use Rattle.apic.specs.declared.vectors.Found.{Found}
 use Rattle.apic.specs.declared.vectors.Found.the-variants.{Vector, None}
-use Rattle.apic.specs.Vectors.{withBit, bitAt, withVector, lowest, marked, isVector}
+use Rattle.apic.specs.Vectors.{bitAt, withVector, lowest, marked, isVector}
 use Rattle.apic.specs.LocalApic.{eoi}
-use Rattle.apic.proofs.Bits.{bit-same, bit-other}
+use Rattle.word.proofs.Bits.{bit-same, bit-other}
 use Rattle.apic.proofs.Least.{least-vector}
 
 -- ---- one vector put

@@ -2,18 +2,12 @@
 -- Assumes nothing.
 use mathlib.Core.Bool.{Bool, true, false}
 use mathlib.Core.List.{List}
-use Prim.Native.Nat.{ℕ, zero, suc, _+_, _*_, _/_, _%_, _^_}
+use Prim.Native.Nat.{ℕ, zero, suc, _+_, _/_, _%_}
 use lib.ListN.{getD, set}
 use lib.Dec.{eqb, ltb}
-use Rattle.word.specs.Word.{bit}
+use Rattle.word.specs.Word.{bit, withBit}
 use Rattle.apic.specs.declared.vectors.Found.{Found}
 use Rattle.apic.specs.declared.vectors.Found.the-variants.{Vector, None}
-
--- ---- a bit of a word
-
--- w with x at bit i: the bits above i, then x, then the bits below
-unfoldable pub withBit : ℕ → ℕ → ℕ → ℕ
-withBit w i x = (w / 2 ^ i / 2 * 2 + x) * 2 ^ i + w % 2 ^ i
 
 -- ---- a vector of the register at place p
 

@@ -94,7 +94,7 @@ pub fn idle(b: &mut [u32])
     requires { ⌜ length (now b) ≡ 256 ⌝ }
     ensures { λ _. ⌜ now (b .exit) ≡ s.idle (now (b .entry)) ⌝ }
 {
-    b[local::ICR] = vectors::put_bit(b[local::ICR], 12, 0);
+    b[local::ICR] = word::put_bit(b[local::ICR], 12, 0);
 }
 
 fn aimed(t: Target, own: bool, same: bool) -> bool

@@ -4,21 +4,11 @@ ghost use mathlib.Core.Bool.{true};
 ghost use Prim.Native.Nat.{ℕ, _+_, _<_, _≤_, _^_};
 ghost use lib.ListN.{length};
 ghost use Rattle.word.specs.Word.{bit};
-ghost use Rattle.apic.specs.Vectors.{withBit, withVector, least, lowest, marked, isVector};
+ghost use Rattle.apic.specs.Vectors.{withVector, least, lowest, marked, isVector};
 
 pub enum Found {
     Vector(u32),
     None,
-}
-
-// w with x at bit i.
-pub fn put_bit(w: u32, i: u32, x: u32) -> u32
-    requires { ⌜ (i < 32) × (x < 2) ⌝ }
-    ensures { λ r. ⌜ r ≡ withBit w i x ⌝ }
-{
-    let high = (w >> i) / 2 * 2 + x;
-    let low = w % (1 << i);
-    (high << i) + low
 }
 
 // The lowest bit that is set in a word.
@@ -61,7 +51,7 @@ pub fn put_vector(b: &mut [u32], place: usize, v: u32, x: u32)
     ensures { λ _. ⌜ now (b .exit) ≡ withVector (now (b .entry)) place v x ⌝ }
 {
     let at = place + (v / 32) as usize;
-    b[at] = put_bit(b[at], v % 32, x);
+    b[at] = word::put_bit(b[at], v % 32, x);
 }
 
 // x at the vector found, if one was.

@@ -161,7 +161,7 @@ pub fn commit(t: &mut [u32], m: &mut [u8], k: u32, p: Plan)
     ensures { λ _. ⌜ now (t .exit) ≡ x.tablesByPlan k p (now (t .entry)) ⌝ }
     ensures { λ _. ⌜ now (m .exit) ≡ x.memoryByPlan p (now (m .entry)) ⌝ }
 {
-    let a = layout::HEADER_WORDS + layout::BLOCK_WORDS * (k as usize);
+    let a = layout::block_at(k);
     let e = a + layout::BLOCK_WORDS;
     on_block(&mut t[a..e], p);
     let w = p.write;

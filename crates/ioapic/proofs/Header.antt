@@ -10,12 +10,11 @@ use lib.ListN.{getD, set, length, length-set}
 use lib.Seq.{getD-set-same, getD-set-other}
 use lib.Dec.{eqb, ltb}
 use borrow.Author.Tests.{ltb-true}
-use Rattle.word.specs.Word.{if_then_else_}
+use Rattle.word.specs.Word.{if_then_else_, withBit}
 use Rattle.word.proofs.Laws.{side}
 use Rattle.word.proofs.Words.{Words, set-below}
 use Rattle.layout.specs.Layout.{ioregsel, iowin, redirect}
-use Rattle.apic.specs.Vectors.{withBit}
-use Rattle.apic.proofs.Bits.{put-lt}
+use Rattle.word.proofs.Bits.{put-below}
 use Rattle.ioapic.specs.IoApic.{entry, withEntry, vect, rirr, ds, selected, windowed, ioWritten, onEntries, acknowledged, eoiReceived, sampled, handed}
 
 -- the words that are not the I/O APIC's
@@ -55,7 +54,7 @@ kept-entry : (t : List ℕ) (k v : ℕ) → k < 24 → (Words t → v < 2 ^ 32) 
 kept-entry t k v h w = kept-set t (redirect + k) v (omega arith) (omega arith) w
 
 bit-put : (t : List ℕ) (k i x : ℕ) → i < 32 → x < 2 → Words t → withBit (entry t k) i x < 2 ^ 32
-bit-put t k i x hi hx w = put-lt (entry t k) i x (w (redirect + k)) hi hx
+bit-put t k i x hi hx w = put-below 32 (entry t k) i x (w (redirect + k)) hi hx
 
 module _ (t : List ℕ) where
   pub kept-selected : (v : ℕ) → v < 2 ^ 32 → Kept t (selected t v)
@@ -85,12 +84,12 @@ module _ (t : List ℕ) where
   unfolding handed
   kept-handed k h =
       kept-entry t k (withBit (withBit (entry t k) ds 0) rirr 1) h
-      (λ w. put-lt (withBit (entry t k) ds 0) rirr 1 (bit-put t k ds 0 (omega arith) (omega arith) w) (omega arith) (omega arith))
+      (λ w. put-below 32 (withBit (entry t k) ds 0) rirr 1 (bit-put t k ds 0 (omega arith) (omega arith) w) (omega arith) (omega arith))
 
 -- ---- an EOI message
 
 acknowledged-lt : (v e : ℕ) (s : Bool) → e < 2 ^ 32 → (if s then withBit e rirr 0 else e) < 2 ^ 32
-acknowledged-lt v e true h = put-lt e rirr 0 h (omega arith) (omega arith)
+acknowledged-lt v e true h = put-below 32 e rirr 0 h (omega arith) (omega arith)
 acknowledged-lt v e false h = h
 
 kept-entries : (t : List ℕ) (v n : ℕ) → n ≤ 24 → Kept t (onEntries (acknowledged v) n t)

@@ -1,18 +1,14 @@
--- One more block, one more entry; the part of the tables that is a block.
+-- One more block, one more entry.
 -- Assumes nothing.
 use mathlib.Core.Path.{_≡_, refl, ap, subst}
 use mathlib.Core.Bool.{Bool, true, false, _||_}
 use mathlib.Core.List.{List}
-use Prim.Native.Nat.{ℕ, _+_, _-_, _<_}
+use Prim.Native.Nat.{ℕ, _+_, _<_}
 use native.Mathlib.Numerals.{add-one}
-use native.Mathlib.Omega.{arith}
 use borrow.Author.Tests.{ltb-true}
 use lib.Dec.{ltb}
 use Rattle.ioapic.specs.Blocks.{onBlock, onBlocks}
 use Rattle.ioapic.specs.IoApic.{entry, withEntry, onEntries, writes}
-
-pub span : (a : ℕ) → a + 256 - a ≡ 256
-span a = omega arith
 
 pub one-more-block : (f : ℕ → List ℕ → List ℕ) (j : ℕ) (t : List ℕ) → onBlocks f (j + 1) t ≡ onBlock (f j) j (onBlocks f j t)
 unfolding onBlocks

@@ -5,9 +5,8 @@ use mathlib.Core.List.{List}
 use Prim.Native.Nat.{ℕ, zero, suc, _+_, _/_, _%_, _^_}
 use lib.ListN.{getD, set}
 use lib.Dec.{eqb, ltb}
-use Rattle.word.specs.Word.{if_then_else_, bit}
+use Rattle.word.specs.Word.{if_then_else_, bit, withBit}
 use Rattle.layout.specs.Layout.{lines, ioregsel, iowin, redirect}
-use Rattle.apic.specs.Vectors.{withBit}
 
 -- ---- 10.1: the redirect table and its fields
 

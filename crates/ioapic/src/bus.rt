@@ -10,40 +10,40 @@ ghost use lib.ListN.{length};
 ghost use Rattle.ioapic.specs.Bus as s;
 
 // An interrupt from core i reaches its targets.
-fn broadcast(t: &mut [u32], n: usize, i: usize, m: Ipi)
+fn broadcast(t: &mut [u32], n: u32, i: u32, m: Ipi)
     requires { ⌜ (n ≤ 4) × (length (now t) ≡ 32 + 256 * n) × (m .vect < 256) ⌝ }
     ensures { λ _. ⌜ now (t .exit) ≡ s.broadcast n i m (now (t .entry)) ⌝ }
 {
-    let mut j = 0;
+    let mut j: u32 = 0;
     while j < n {
-        let a = layout::HEADER_WORDS + layout::BLOCK_WORDS * j;
+        let a = layout::block_at(j);
         let e = a + layout::BLOCK_WORDS;
         active::receive(&mut t[a..e], j == i, m);
         j += 1;
     }
 }
 
-pub fn send_ipi(t: &mut [u32], n: usize, i: usize, m: Ipi)
+pub fn send_ipi(t: &mut [u32], n: u32, i: u32, m: Ipi)
     requires { ⌜ (n ≤ 4) × (length (now t) ≡ 32 + 256 * n) × (i < n) × (m .vect < 256) ⌝ }
     ensures { λ _. ⌜ now (t .exit) ≡ s.sendIpi n i m (now (t .entry)) ⌝ }
 {
-    let a = layout::HEADER_WORDS + layout::BLOCK_WORDS * i;
+    let a = layout::block_at(i);
     let e = a + layout::BLOCK_WORDS;
     active::idle(&mut t[a..e]);
     broadcast(t, n, i, m);
 }
 
-pub fn send_eoi(t: &mut [u32], n: usize, i: usize, v: u32)
+pub fn send_eoi(t: &mut [u32], n: u32, i: u32, v: u32)
     requires { ⌜ (n ≤ 4) × (length (now t) ≡ 32 + 256 * n) × (i < n) × (v < 256) ⌝ }
     ensures { λ _. ⌜ now (t .exit) ≡ s.sendEoi i v (now (t .entry)) ⌝ }
 {
-    let a = layout::HEADER_WORDS + layout::BLOCK_WORDS * i;
+    let a = layout::block_at(i);
     let e = a + layout::BLOCK_WORDS;
     active::eoi_sent(&mut t[a..e], v);
     ports::end(t, v);
 }
 
-pub fn deliver(t: &mut [u32], n: usize, k: usize)
+pub fn deliver(t: &mut [u32], n: u32, k: usize)
     requires { ⌜ (n ≤ 4) × (length (now t) ≡ 32 + 256 * n) × (k < 24) ⌝ }
     ensures { λ _. ⌜ now (t .exit) ≡ s.deliver n k (now (t .entry)) ⌝ }
 {

@@ -1,5 +1,4 @@
 // The I/O APIC on the header words of the tables (section 10).
-use apic::vectors;
 ghost use mathlib.Core.Path.{_≡_};
 ghost use mathlib.Core.Bool.{true};
 ghost use Prim.Native.Nat.{_<_, _≤_};
@@ -53,7 +52,7 @@ fn acknowledged(e: u32, v: u32) -> u32
     ensures { λ r. ⌜ r ≡ s.acknowledged v e ⌝ }
 {
     if e % 256 == v {
-        return vectors::put_bit(e, 14, 0);
+        return word::put_bit(e, 14, 0);
     }
     e
 }
@@ -85,7 +84,7 @@ pub fn sample(t: &mut [u32], k: usize)
     ensures { λ _. ⌜ now (t .exit) ≡ s.sampled (now (t .entry)) k ⌝ }
 {
     let at = layout::REDIRECT + k;
-    t[at] = vectors::put_bit(t[at], 12, 1);
+    t[at] = word::put_bit(t[at], 12, 1);
 }
 
 pub fn may_deliver(t: &[u32], k: usize) -> bool
@@ -102,6 +101,6 @@ pub fn hand(t: &mut [u32], k: usize)
     ensures { λ _. ⌜ now (t .exit) ≡ s.handed (now (t .entry)) k ⌝ }
 {
     let at = layout::REDIRECT + k;
-    let e = vectors::put_bit(t[at], 12, 0);
-    t[at] = vectors::put_bit(e, 14, 1);
+    let e = word::put_bit(t[at], 12, 0);
+    t[at] = word::put_bit(e, 14, 1);
 }

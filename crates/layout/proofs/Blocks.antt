@@ -13,9 +13,23 @@ use Rattle.layout.specs.Blocks.{block, withBlock}
 abbrev pub Has : List ℕ → ℕ → Type 0
 Has t k = 32 + 256 * k + 256 ≤ length t
 
--- what `a + 256` ends
-pub span : (a : ℕ) → a + 256 - a ≡ 256
-span a = omega arith
+-- the part of the tables from a to a + 256, where the block of core k starts at a
+module _ (t : List ℕ) (k a : ℕ) (e : a ≡ 32 + 256 * k) where
+  span : a + 256 - a ≡ 256
+  span = omega arith
+
+  pub part : take (a + 256 - a) (drop a t) ≡ block t k
+  unfolding block
+  part = rw (span, e) refl
+
+  -- b in its place
+  pub part-put : (b : List ℕ) → take a t ++ (b ++ drop (a + 256 - a) (drop a t)) ≡ withBlock t k b
+  unfolding withBlock
+  part-put b = rw (span, e) refl
+
+  -- what f makes of it in its place
+  pub part-done : (f : List ℕ → List ℕ) (b : List ℕ) → b ≡ f (take (a + 256 - a) (drop a t)) → take a t ++ (b ++ drop (a + 256 - a) (drop a t)) ≡ withBlock t k (f (block t k))
+  part-done f b q = part-put b ∙ ap (withBlock t k) (q ∙ ap f part)
 
 pub block-long : (t : List ℕ) (k : ℕ) → 32 + 256 * k + 256 ≤ length t → length (block t k) ≡ 256
 unfolding block

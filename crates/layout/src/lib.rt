@@ -1,4 +1,10 @@
 // The words of the tables, by name: specs/Layout.antt says what each is.
+ghost use mathlib.Core.Path.{_≡_};
+ghost use Prim.Native.Nat.{_+_, _≤_};
+ghost use lib.ListN.{length};
+ghost use Rattle.layout.specs.Layout as x;
+ghost use Rattle.layout.specs.Blocks as y;
+
 pub const HEADER_WORDS: usize = 32;
 
 pub const CORES: usize = 0;
@@ -89,3 +95,20 @@ pub const PAGE_BYTES: usize = 4096;
 pub const MOST_PAGES: usize = 4096;
 
 pub const MOST_CORES: u32 = 4;
+
+// Where the block of core k starts.
+pub fn block_at(k: u32) -> usize
+    ensures { λ r. ⌜ r ≡ x.blockAt k ⌝ }
+{
+    HEADER_WORDS + BLOCK_WORDS * (k as usize)
+}
+
+// The block of core k.
+pub fn block(t: &[u32], k: u32) -> &[u32]
+    requires { ⌜ x.blockAt k + x.blockWords ≤ length (now t) ⌝ }
+    ensures { λ r. ⌜ (now r ≡ y.block (now (t .entry)) k) × (length (now r) ≡ x.blockWords) ⌝ }
+{
+    let a = block_at(k);
+    let e = a + BLOCK_WORDS;
+    &t[a..e]
+}

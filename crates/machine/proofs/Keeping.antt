@@ -9,7 +9,7 @@ use lib.ListN.{length, getD, set, length-set}
 use lib.Seq.{getD-set-other}
 use lib.Dec.{eqb, ltb}
 use native.Mathlib.Omega.{arith}
-use Rattle.word.specs.Word.{if_then_else_}
+use Rattle.word.specs.Word.{if_then_else_, withBit}
 use Rattle.word.proofs.Bytes.{Bytes}
 use Rattle.word.proofs.Words.{Words}
 use Rattle.word.proofs.Tests.{true-false}
@@ -23,10 +23,9 @@ use Rattle.tables.proofs.Parts.{words-of, records-of, of-parts}
 use Rattle.tables.proofs.Places.{words-facts, facts-words}
 use Rattle.tables.proofs.Lift.{header, core-fits, core-long, core-sound, with-sound, set-header-sound, set-lines-sound}
 use Rattle.apic.specs.declared.active.Ipi.{Ipi}
-use Rattle.apic.specs.Vectors.{withBit}
 use Rattle.apic.specs.LocalApic.{idOf, fixed, irr}
 use Rattle.apic.specs.Active.{idle, receivedBy, eoiSent, initCore, startCore}
-use Rattle.apic.proofs.Bits.{put-below}
+use Rattle.word.proofs.Bits.{put-below}
 use Rattle.apic.proofs.Kept.{Kept, Passive, Reset, kept-all, kept-if, kept-vector, kept-idle, kept-reached, kept-initCore, kept-startCore}
 use Rattle.ioapic.specs.Blocks.{onBlock, onBlocks}
 use Rattle.ioapic.specs.IoApic.{entry, withEntry, dest, vect, rirr, ds, onEntries, acknowledged, eoiReceived, sampled, handed}

@@ -8,16 +8,15 @@ use lib.ListN.{length, set}
 use lib.Dec.{ltb}
 use native.Mathlib.Omega.{arith}
 use borrow.Author.Tests.{ltb-true}
-use Rattle.word.specs.Word.{if_then_else_}
+use Rattle.word.specs.Word.{if_then_else_, withBit}
 use Rattle.word.proofs.Bytes.{Bytes}
 use Rattle.word.proofs.Words.{Words, set-below}
 use Rattle.layout.specs.Layout as at
 use Rattle.tables.specs.Views.{coresOf, linesOf, refusalsOf}
 use Rattle.tables.specs.Sound.{sound}
 use Rattle.tables.proofs.Lift.{header}
-use Rattle.apic.specs.Vectors.{withBit}
 use Rattle.apic.specs.Active.{initCore, startCore}
-use Rattle.apic.proofs.Bits.{put-lt}
+use Rattle.word.proofs.Bits.{put-below}
 use Rattle.apic.proofs.Kept.{kept-initCore, kept-startCore}
 use Rattle.ioapic.proofs.Blocks.{onBlock-words}
 use Rattle.ioapic.proofs.Header.{kept-sampled}
@@ -44,7 +43,7 @@ action-words t m e (InitCore k) A w = onBlock-words initCore (λ b. kept-initCor
 action-words t m e (StartCore k) A w = onBlock-words startCore (λ b. kept-startCore b .words) t k w
 action-words t m e (Sample l) A w = kept-sampled t l A .words w
 action-words t m e (Deliver l) A w = deliver-words (coresOf t) t (header t (length m) e .long) l A w
-action-words t m e (SetLine l v) A w = set-below t at.lines (withBit (linesOf t) l v) w (put-lt (linesOf t) l v (w at.lines) (omega arith) (A .1))
+action-words t m e (SetLine l v) A w = set-below t at.lines (withBit (linesOf t) l v) w (put-below 32 (linesOf t) l v (w at.lines) (omega arith) (A .1))
 
 counted-words : (t : List ℕ) → Words t → Words (counted t)
 unfolding counted

@@ -5,10 +5,10 @@ use mathlib.Core.List.{List}
 use Prim.Native.Nat.{ℕ, _+_}
 use lib.Dec.{ltb}
 use lib.ListN.{getD, set, length}
+use Rattle.word.specs.Word.{withBit}
 use Rattle.layout.specs.Layout.{lines}
 use Rattle.layout.specs.Blocks.{block}
 use Rattle.tables.specs.Views.{coresOf, linesOf}
-use Rattle.apic.specs.Vectors.{withBit}
 use Rattle.apic.specs.Active.{initCore, startCore}
 use Rattle.ioapic.specs.Blocks.{onBlock}
 use Rattle.ioapic.specs.IoApic.{sampled}

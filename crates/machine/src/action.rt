@@ -1,19 +1,16 @@
 // What a step is to do to the tables and to memory.
 use apic::active;
 use apic::active::Ipi;
-use apic::vectors;
 use cores::Plan;
 use ioapic::bus;
 use ioapic::ports;
 use steps::Answer;
 ghost use mathlib.Core.Path.{_≡_};
 ghost use mathlib.Core.Bool.{true, false};
-ghost use Prim.Native.Nat.{_+_, _*_, _<_, _≤_};
+ghost use Prim.Native.Nat.{_<_, _≤_};
 ghost use lib.ListN.{length};
 ghost use Rattle.tables.specs.Sound.{sound};
 ghost use Rattle.tables.specs.Views.{coresOf};
-ghost use Rattle.apic.specs.Active as a;
-ghost use Rattle.ioapic.specs.Blocks.{onBlock};
 ghost use Rattle.machine.specs.Actions as x;
 ghost use Rattle.machine.specs.inner.Split.{isPlan};
 
@@ -48,29 +45,11 @@ pub fn answer(a: Action) -> Answer
     }
 }
 
-fn init_core(t: &mut [u32], k: u32)
-    requires { ⌜ 32 + 256 * k + 256 ≤ length (now t) ⌝ }
-    ensures { λ _. ⌜ now (t .exit) ≡ onBlock a.initCore k (now (t .entry)) ⌝ }
-{
-    let a = layout::HEADER_WORDS + layout::BLOCK_WORDS * (k as usize);
-    let e = a + layout::BLOCK_WORDS;
-    active::init_core(&mut t[a..e]);
-}
-
-fn start_core(t: &mut [u32], k: u32)
-    requires { ⌜ 32 + 256 * k + 256 ≤ length (now t) ⌝ }
-    ensures { λ _. ⌜ now (t .exit) ≡ onBlock a.startCore k (now (t .entry)) ⌝ }
-{
-    let a = layout::HEADER_WORDS + layout::BLOCK_WORDS * (k as usize);
-    let e = a + layout::BLOCK_WORDS;
-    active::start_core(&mut t[a..e]);
-}
-
 fn set_line(t: &mut [u32], l: u32, level: u32)
     requires { ⌜ (32 ≤ length (now t)) × (l < 24) × (level < 2) ⌝ }
     ensures { λ _. ⌜ now (t .exit) ≡ x.lineSet (now (t .entry)) l level ⌝ }
 {
-    t[layout::LINES] = vectors::put_bit(t[layout::LINES], l, level);
+    t[layout::LINES] = word::put_bit(t[layout::LINES], l, level);
 }
 
 // What was decided by a step that has no plan is done.
@@ -81,21 +60,25 @@ pub fn commit(t: &mut [u32], m: &mut [u8], a: Action)
     ensures { λ _. ⌜ now (t .exit) ≡ x.tablesAfter a (now (t .entry)) ⌝ }
     ensures { λ _. ⌜ now (m .exit) ≡ x.memoryAfter a (now (m .entry)) ⌝ }
 {
-    let n = t[layout::CORES] as usize;
+    let n = t[layout::CORES];
     match a {
         Action::Refused(_) => {}
         Action::Planned(_, _) => {}
         Action::SendIpi(k, i) => {
-            bus::send_ipi(t, n, k as usize, i);
+            bus::send_ipi(t, n, k, i);
         }
         Action::SendEoi(k, v) => {
-            bus::send_eoi(t, n, k as usize, v);
+            bus::send_eoi(t, n, k, v);
         }
         Action::InitCore(k) => {
-            init_core(t, k);
+            let at = layout::block_at(k);
+            let e = at + layout::BLOCK_WORDS;
+            active::init_core(&mut t[at..e]);
         }
         Action::StartCore(k) => {
-            start_core(t, k);
+            let at = layout::block_at(k);
+            let e = at + layout::BLOCK_WORDS;
+            active::start_core(&mut t[at..e]);
         }
         Action::Sample(l) => {
             ports::sample(t, l as usize);

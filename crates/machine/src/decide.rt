@@ -11,20 +11,13 @@ use records::Walk;
 use steps::Step;
 ghost use mathlib.Core.Path.{_≡_};
 ghost use mathlib.Core.Bool.{true, false};
-ghost use Prim.Native.Nat.{_+_, _*_, _<_, _≤_, _%_};
+ghost use Prim.Native.Nat.{_+_, _*_, _≤_, _%_};
 ghost use lib.ListN.{length};
-ghost use lib.ListN.{getD};
-ghost use Prim.Native.Nat.{_^_};
 ghost use Rattle.layout.specs.Blocks.{block};
-ghost use Rattle.records.specs.Records.{linked, stores, walks};
 ghost use Rattle.records.specs.Contents.{soundRecords};
 ghost use Rattle.tables.specs.Sound.{sound};
 ghost use Rattle.tables.specs.Views.{coresOf, ioregselOf, iowinOf};
-ghost use Rattle.tlb.specs.Steps as tlb;
-ghost use Rattle.apic.specs.Active as a;
 ghost use Rattle.cores.specs.Core as c;
-ghost use Rattle.cores.specs.Walks.{planned};
-ghost use Rattle.cores.specs.Buffer as z;
 ghost use Rattle.machine.specs.Decide as x;
 ghost use Rattle.machine.specs.inner.Split as y;
 
@@ -34,74 +27,25 @@ fn core(t: &[u32], m: &[u8], k: u32, fetch: Walk, second: Walk) -> Plan
     requires { ⌜ length (now m) % 4 ≡ 0 ⌝ }
     ensures { λ r. ⌜ r ≡ c.corePlan (c.viewOf (block (now (t .entry)) k) (ioregselOf (now (t .entry))) (iowinOf (now (t .entry)))) (now (m .entry)) fetch second ⌝ }
 {
-    let a = layout::HEADER_WORDS + layout::BLOCK_WORDS * (k as usize);
-    let e = a + layout::BLOCK_WORDS;
     let select = t[layout::IOREGSEL];
     let window = t[layout::IOWIN];
-    fetch::decide(&t[a..e], select, window, m, fetch, second)
+    fetch::decide(layout::block(t, k), select, window, m, fetch, second)
 }
 
-fn create(t: &[u32], k: u32, va: u32) -> Plan
-    requires { ⌜ 32 + 256 * k + 256 ≤ length (now t) ⌝ }
-    requires { ⌜ linked (block (now t) k) ≡ true ⌝ }
-    requires { ⌜ va < 2 ^ 20 ⌝ }
-    ensures { λ r. ⌜ r ≡ planned (walks (block (now (t .entry)) k)) (c.isFree (block (now (t .entry)) k)) (tlb.createOn (block (now (t .entry)) k) va) ⌝ }
-{
-    let a = layout::HEADER_WORDS + layout::BLOCK_WORDS * (k as usize);
-    let e = a + layout::BLOCK_WORDS;
-    buffer::create(&t[a..e], va)
-}
+// What core k sends, an interrupt or an EOI message; where there is nothing to send, the step is refused.
 
-fn extend(t: &[u32], m: &[u8], k: u32, w: Walk) -> Plan
-    requires { ⌜ 32 + 256 * k + 256 ≤ length (now t) ⌝ }
-    requires { ⌜ linked (block (now t) k) ≡ true ⌝ }
-    ensures { λ r. ⌜ r ≡ planned (walks (block (now (t .entry)) k)) (c.isFree (block (now (t .entry)) k)) (tlb.extendOn (block (now (t .entry)) k) (now (m .entry)) w) ⌝ }
+fn to_send(k: u32, s: Sending) -> Action
+    ensures { λ r. ⌜ r ≡ x.toSend k s ⌝ }
 {
-    let a = layout::HEADER_WORDS + layout::BLOCK_WORDS * (k as usize);
-    let e = a + layout::BLOCK_WORDS;
-    buffer::extend(&t[a..e], m, w)
-}
-
-fn accessed(t: &[u32], m: &[u8], k: u32, w: Walk) -> Plan
-    requires { ⌜ 32 + 256 * k + 256 ≤ length (now t) ⌝ }
-    requires { ⌜ linked (block (now t) k) ≡ true ⌝ }
-    ensures { λ r. ⌜ r ≡ planned (walks (block (now (t .entry)) k)) (c.isFree (block (now (t .entry)) k)) (tlb.accessedOn (block (now (t .entry)) k) (now (m .entry)) w) ⌝ }
-{
-    let a = layout::HEADER_WORDS + layout::BLOCK_WORDS * (k as usize);
-    let e = a + layout::BLOCK_WORDS;
-    buffer::accessed(&t[a..e], m, w)
-}
-
-fn drain(t: &[u32], bytes: usize, k: u32) -> Plan
-    requires { ⌜ 32 + 256 * k + 256 ≤ length (now t) ⌝ }
-    requires { ⌜ linked (block (now t) k) ≡ true ⌝ }
-    ensures { λ r. ⌜ r ≡ z.bufferStep (stores (block (now (t .entry)) k)) bytes ⌝ }
-{
-    let a = layout::HEADER_WORDS + layout::BLOCK_WORDS * (k as usize);
-    let e = a + layout::BLOCK_WORDS;
-    buffer::drain(&t[a..e], bytes)
-}
-
-fn send_ipi(t: &[u32], k: u32) -> Action
-    requires { ⌜ 32 + 256 * k + 256 ≤ length (now t) ⌝ }
-    ensures { λ r. ⌜ r ≡ x.toSend k (a.sending (block (now (t .entry)) k)) ⌝ }
-{
-    let a = layout::HEADER_WORDS + layout::BLOCK_WORDS * (k as usize);
-    let e = a + layout::BLOCK_WORDS;
-    let s = active::to_send(&t[a..e]);
     match s {
         Sending::Send(i) => Action::SendIpi(k, i),
         Sending::Refused => Action::Refused(6),
     }
 }
 
-fn send_eoi(t: &[u32], k: u32) -> Action
-    requires { ⌜ 32 + 256 * k + 256 ≤ length (now t) ⌝ }
-    ensures { λ r. ⌜ r ≡ x.toEnd k (a.pendingEoi (block (now (t .entry)) k)) ⌝ }
+fn to_end(k: u32, f: Found) -> Action
+    ensures { λ r. ⌜ r ≡ x.toEnd k f ⌝ }
 {
-    let a = layout::HEADER_WORDS + layout::BLOCK_WORDS * (k as usize);
-    let e = a + layout::BLOCK_WORDS;
-    let f = active::pending_eoi(&t[a..e]);
     match f {
         Found::Vector(v) => Action::SendEoi(k, v),
         Found::None => Action::Refused(6),
@@ -112,24 +56,6 @@ fn if_allowed(allowed: bool, a: Action) -> Action
     ensures { λ r. ⌜ r ≡ x.ifAllowed allowed a ⌝ }
 {
     if allowed { a } else { Action::Refused(6) }
-}
-
-fn init_core(t: &[u32], k: u32) -> Action
-    requires { ⌜ 32 + 256 * k + 256 ≤ length (now t) ⌝ }
-    ensures { λ r. ⌜ r ≡ x.ifAllowed (a.mayInit (block (now (t .entry)) k)) (Action.InitCore k) ⌝ }
-{
-    let a = layout::HEADER_WORDS + layout::BLOCK_WORDS * (k as usize);
-    let e = a + layout::BLOCK_WORDS;
-    if_allowed(active::may_init(&t[a..e]), Action::InitCore(k))
-}
-
-fn start_core(t: &[u32], k: u32) -> Action
-    requires { ⌜ 32 + 256 * k + 256 ≤ length (now t) ⌝ }
-    ensures { λ r. ⌜ r ≡ x.ifAllowed (a.mayStart (block (now (t .entry)) k)) (Action.StartCore k) ⌝ }
-{
-    let a = layout::HEADER_WORDS + layout::BLOCK_WORDS * (k as usize);
-    let e = a + layout::BLOCK_WORDS;
-    if_allowed(active::may_start(&t[a..e]), Action::StartCore(k))
 }
 
 // Whether a step has a plan: those of a core, of its TLB and of its store buffer.
@@ -183,10 +109,10 @@ pub fn plan(t: &[u32], m: &[u8], p: Step) -> Plan
 {
     match p {
         Step::Core(k, fetch, second) => core(t, m, k, fetch, second),
-        Step::TlbCreate(k, va) => create(t, k, va),
-        Step::TlbExtend(k, w) => extend(t, m, k, w),
-        Step::TlbAccessed(k, w) => accessed(t, m, k, w),
-        Step::StoreBuffer(k) => drain(t, m.len(), k),
+        Step::TlbCreate(k, va) => buffer::create(layout::block(t, k), va),
+        Step::TlbExtend(k, w) => buffer::extend(layout::block(t, k), m, w),
+        Step::TlbAccessed(k, w) => buffer::accessed(layout::block(t, k), m, w),
+        Step::StoreBuffer(k) => buffer::drain(layout::block(t, k), m.len()),
         Step::SendIpi(_) => cores::refused(5),
         Step::SendEoi(_) => cores::refused(5),
         Step::InitCore(_) => cores::refused(5),
@@ -211,10 +137,13 @@ pub fn action(t: &[u32], m: &[u8], p: Step) -> Action
         Step::TlbExtend(_, _) => Action::Refused(5),
         Step::TlbAccessed(_, _) => Action::Refused(5),
         Step::StoreBuffer(_) => Action::Refused(5),
-        Step::SendIpi(k) => send_ipi(t, k),
-        Step::SendEoi(k) => send_eoi(t, k),
-        Step::InitCore(k) => init_core(t, k),
-        Step::StartCore(k) => start_core(t, k),
+        Step::SendIpi(k) => to_send(k, active::to_send(layout::block(t, k))),
+        Step::SendEoi(k) => to_end(k, active::pending_eoi(layout::block(t, k))),
+        Step::InitCore(k) => if_allowed(active::may_init(layout::block(t, k)), Action::InitCore(k)),
+        Step::StartCore(k) => if_allowed(
+            active::may_start(layout::block(t, k)),
+            Action::StartCore(k),
+        ),
         Step::Sample(l) => if_allowed(ports::may_sample(t, l as usize), Action::Sample(l)),
         Step::Deliver(l) => if_allowed(ports::may_deliver(t, l as usize), Action::Deliver(l)),
         Step::SetLine(l, level) => Action::SetLine(l, level),

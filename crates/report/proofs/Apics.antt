@@ -10,14 +10,14 @@ use lib.ListN.{length, getD, set, drop, length-set}
 use lib.Seq.{getD-set-same, getD-set-other, getD-take, getD-drop}
 use native.Mathlib.Omega.{arith}
 use borrow.Author.Tests.{eqb-true, eqb-false, ltb-true, lt-ltb, le-ltb, le-leb, lt-leb}
-use Rattle.word.specs.Word.{if_then_else_, bit, isSet, flag}
+use Rattle.word.specs.Word.{if_then_else_, bit, isSet, flag, withBit}
 use Rattle.word.specs.Bytes.{byte}
 use Rattle.word.proofs.Laws.{side}
 use Rattle.layout.specs.Layout as at
 use Rattle.tables.specs.Views.{portByte, sipirrOf, initrrOf}
 use Rattle.apic.specs.declared.vectors.Found.{Found}
 use Rattle.apic.specs.declared.vectors.Found.the-variants.{Vector, None}
-use Rattle.apic.specs.Vectors.{withBit, withVector, least, lowest, marked, isVector}
+use Rattle.apic.specs.Vectors.{withVector, least, lowest, marked, isVector}
 use Rattle.apic.specs.Vectors as vectors
 use Rattle.apic.specs.LocalApic as local
 use Rattle.apic.specs.Active as active
@@ -26,7 +26,7 @@ use Rattle.apic.proofs.Registers.{vector-same, vector-other}
 use Rattle.report.specs.Configuration.{Apic, upd, withPorts, withInit, withSipi, withEoipending}
 use Rattle.report.specs.Components.{inside, bitAt, withBitAt, icr, isr, irr, min, atVector, written, ended, ΣApic, δapic}
 use Rattle.report.specs.View.{apicOf, SameApic}
-use Rattle.apic.proofs.Bytes.{byte-bit, byte-put, byte-apart, flag-set}
+use Rattle.word.proofs.Bits.{byte-bit, byte-put, byte-apart, flag-set}
 
 -- ---- agreement
 

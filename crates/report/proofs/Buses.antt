@@ -10,7 +10,7 @@ use lib.ListN.{length, getD}
 use lib.Seq.{getD-set-other}
 use native.Mathlib.Omega.{arith}
 use borrow.Author.Tests.{lt-ltb, ltb-true, eqb-true, eqb-false, eq-eqb, ne-eqb}
-use Rattle.word.specs.Word.{if_then_else_, bit, isSet, field}
+use Rattle.word.specs.Word.{if_then_else_, bit, isSet, field, withBit}
 use Rattle.layout.specs.Layout as at
 use Rattle.layout.specs.Blocks.{block}
 use Rattle.tables.specs.Views.{coresOf, linesOf, runningOf, initrrOf, sipirrOf}
@@ -26,10 +26,10 @@ use Rattle.apic.specs.declared.active.Target.{Target}
 use Rattle.apic.specs.declared.active.Target.the-variants.{Id, Own, All, AllButOwn}
 use Rattle.apic.specs.declared.active.Ipi.{Ipi}
 use Rattle.apic.specs.declared.active.Sending.the-variants as sent
-use Rattle.apic.specs.Vectors.{withBit, isVector}
+use Rattle.apic.specs.Vectors.{isVector}
 use Rattle.apic.specs.LocalApic.{idOf, received}
 use Rattle.apic.specs.Active.{ipiOf, sending, idle, aimed, receivedBy, pendingEoi, eoiSent}
-use Rattle.apic.proofs.Bits.{bit-lt}
+use Rattle.word.proofs.Bits.{bit-lt, one-not-zero}
 use Rattle.word.proofs.Words.{Words}
 use Rattle.apic.proofs.Kept.{Kept, Passive, kept-all, kept-then, kept-idle, kept-received, kept-reached, kept-vector}
 use Rattle.apic.proofs.Least.{lowest-vector}
@@ -48,7 +48,6 @@ use Rattle.report.specs.Components.{bytes, ID, ICR, icr, withBitAt, isFo
 use Rattle.report.specs.Delta as report
 use Rattle.report.specs.View.{apicOf, processorOf, ioapicOf, view, SameApic, SameProcessor, Same}
 use Rattle.report.specs.Needs.{misses}
-use Rattle.apic.proofs.Bytes.{one-not-zero}
 use Rattle.report.proofs.Cases.{δx, adds-none, Case, is-a-step}
 use Rattle.report.proofs.Apics.{apic-refl, min-eoi, put-eoi, fixed-same, init-same, startup-same, idle-same}
 use Rattle.report.proofs.Frames.{SameIo, io-kept, redirect-at, processor-refl, passive, tables-same}

@@ -11,16 +11,15 @@ use lib.Seq.{getD-set-same, getD-set-other}
 use native.Mathlib.Nat.{div-div-eq-div-mul}
 use native.Mathlib.Omega.{arith}
 use borrow.Author.Tests.{lt-ltb}
-use Rattle.word.specs.Word.{if_then_else_, bit, isSet, field}
+use Rattle.word.specs.Word.{if_then_else_, bit, isSet, field, withBit}
 use Rattle.word.specs.Bytes.{byte}
 use Rattle.layout.specs.Blocks.{block}
 use Rattle.layout.proofs.Blocks.{set-block}
 use Rattle.tables.specs.Views.{coresOf, linesOf, runningOf}
 use Rattle.tables.specs.Sound.{sound}
 use Rattle.tables.proofs.Lift.{header, core-long}
-use Rattle.apic.specs.Vectors.{withBit}
 use Rattle.apic.specs.LocalApic.{idOf, fixed, irr}
-use Rattle.apic.proofs.Bits.{bit-lt, bit-same, bit-other}
+use Rattle.word.proofs.Bits.{bit-lt, bit-same, bit-other, zero-not-one}
 use Rattle.word.proofs.Words.{Words}
 use Rattle.apic.proofs.Kept.{Passive, kept-all, kept-vector, kept-if}
 use Rattle.ioapic.specs.IoApic.{entry, dest, vect, rirr, ds, maySample, sampled, mayDeliver, handed}
@@ -38,7 +37,6 @@ use Rattle.report.specs.Components.{bytes, ID, ΣApic, δapic}
 use Rattle.report.specs.Delta as report
 use Rattle.report.specs.View.{apicOf, processorOf, ioapicOf, view, SameProcessor, Same}
 use Rattle.report.specs.Needs.{misses}
-use Rattle.apic.proofs.Bytes.{zero-not-one}
 use Rattle.report.proofs.Cases.{δx, adds-none, Case, is-a-step}
 use Rattle.report.proofs.Apics.{upd-case, apic-refl, fixed-same}
 use Rattle.report.proofs.Frames.{io-refl, io-then, io-kept, redirect-at, entry-same, processor-of, processor-refl, passive, tables-same}

@@ -32,7 +32,7 @@ use Rattle.report.specs.Configuration.{Apic, Configuration, withApic, wi
 use Rattle.report.specs.Delta as report
 use Rattle.report.specs.View.{apicOf, processorOf, view, SameApic, SameProcessor, Same}
 use Rattle.report.specs.Needs.{misses}
-use Rattle.apic.proofs.Bytes.{zero-not-one}
+use Rattle.word.proofs.Bits.{zero-not-one}
 use Rattle.report.proofs.Cases.{δx, adds-none, Case, is-a-step}
 use Rattle.report.proofs.Apics.{eoi-bit}
 use Rattle.report.proofs.Frames.{block-same}

@@ -12,15 +12,14 @@ use lib.ListN.{length, getD, take, replicate, length-replicate}
 use lib.Seq.{length-take-le}
 use lib.Dec.{eqb}
 use borrow.Author.Tests.{not-true, not-false}
-use Rattle.word.specs.Word.{isSet, flag, if_then_else_}
+use Rattle.word.specs.Word.{isSet, flag, if_then_else_, withBit}
 use Rattle.word.proofs.Truth.{and-left, and-right, and-both, tested, and-true}
 use Rattle.layout.specs.Blocks.{block}
 use Rattle.records.specs.Records.{all}
 use Rattle.tables.specs.Views.{coresOf, pagesOf}
 use Rattle.tables.specs.Sound.{sound}
 use Rattle.tlb.specs.Steps.{runs}
-use Rattle.apic.specs.Vectors.{withBit}
-use Rattle.apic.proofs.Bits.{bit-same, bit-other}
+use Rattle.word.proofs.Bits.{bit-same, bit-other}
 use Rattle.reach.specs.Lists.{range, has, select}
 use Rattle.reach.specs.Reach.{Pages, isGroup, members, tablePages, reached, reach, inMemory, mapByte, mapFor}
 use Rattle.reach.proofs.Lists.{decided, clash, In, in-right, in-range, range-in, all-in, in-all, all-append, both-ways, has-append, select-same}

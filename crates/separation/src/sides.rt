@@ -1,12 +1,9 @@
 // The two sides of a group: their cores, and what their maps say of a page (specs/inner/Sides.antt).
-use layout::BLOCK_WORDS;
 use layout::CORES;
-use layout::HEADER_WORDS;
 ghost use mathlib.Core.Path.{_≡_};
 ghost use Prim.Native.Nat.{_+_, _*_, _≤_, _<_};
 ghost use lib.ListN.{length, getD};
 ghost use Rattle.word.specs.Word.{isSet};
-ghost use Rattle.layout.specs.Blocks.{block};
 ghost use Rattle.records.specs.Records.{all};
 ghost use Rattle.tables.specs.Views.{coresOf};
 ghost use Rattle.reach.specs.Lists.{range};
@@ -22,16 +19,6 @@ fn is_member(group: u32, k: u32) -> bool
     word::shift_right(group, k) % 2 == 1
 }
 
-// The block of core k.
-fn core(t: &[u32], k: u32) -> &[u32]
-    requires { ⌜ (k < 4) × (32 + 256 * k + 256 ≤ length (now t)) ⌝ }
-    ensures { λ r. ⌜ (now r ≡ block (now (t .entry)) k) × (length (now r) ≡ 256) ⌝ }
-{
-    let a = HEADER_WORDS + BLOCK_WORDS * (k as usize);
-    let e = a + BLOCK_WORDS;
-    &t[a..e]
-}
-
 // The rest, as a group: the other running cores.
 pub fn rest(t: &[u32], group: u32) -> u32
     requires { ⌜ (coresOf (now t) ≤ 4) × (32 + 256 * coresOf (now t) ≤ length (now t)) ⌝ }
@@ -41,8 +28,8 @@ pub fn rest(t: &[u32], group: u32) -> u32
     let mut r: u32 = 0;
     let mut k: u32 = 0;
     while k < cores {
-        let other = !is_member(group, k) & tlb::runs(core(t, k));
-        r = apic::vectors::put_bit(r, k, other as u32);
+        let other = !is_member(group, k) & tlb::runs(layout::block(t, k));
+        r = word::put_bit(r, k, other as u32);
         k += 1;
     }
     r
@@ -54,7 +41,7 @@ fn passes(t: &[u32], group: u32, k: u32) -> bool
     ensures { λ r. ⌜ r ≡ y.passes group (now (t .entry)) k ⌝ }
 {
     let member = is_member(group, k);
-    let b = core(t, k);
+    let b = layout::block(t, k);
     let running = tlb::runs(b);
     let user = tlb::user_mode(b);
     !(member | running) | (running & user)

@@ -5,7 +5,7 @@ use mathlib.Core.Bool.{false}
 use mathlib.Core.List.{List, [], _∷_, map}
 use Prim.Native.Nat.{ℕ, _+_, _*_, _^_}
 use lib.ListN.{getD, set, replicate}
-use Rattle.word.specs.Word.{flag, signed, sxt}
+use Rattle.word.specs.Word.{flag, signed, sxt, withBit}
 use Rattle.decode.specs.Table.{decoded, rowOf}
 use Rattle.decode.specs.Mnemonics.{itype, rtype, compi, compr, alu, mulacc, b, jump, su, load, cas, jal, jalr, movg2s, movs2g, mfhi, mflo, mthi, mtlo, mul}
 use Rattle.units.specs.Alu.{alures, ovf, alucon}
@@ -15,7 +15,7 @@ use Rattle.tlb.specs.Walks.{walkOf}
 use Rattle.store_buffer.specs.Buffer.{sbehit, sbhit, newestFrom, sbv, some, sbhazard}
 use Rattle.store_buffer.specs.System.{msOf, reads, loaded}
 use Rattle.store_buffer.specs.Figures.{pending, pendingLoad, valueOf}
-use Rattle.apic.specs.Vectors.{withBit, withVector, least}
+use Rattle.apic.specs.Vectors.{withVector, least}
 use Rattle.apic.specs.LocalApic.{eoiWritten, portWritten}
 use Rattle.apic.specs.Figures.{isrAfterEoi}
 use Rattle.isa.specs.declared.registers.Registers.{Registers}

@@ -69,10 +69,13 @@ module _ (n : ℕ) (t : List ℕ) where
 
 -- ---- the blocks
 
-pub blocks-step : (k n : ℕ) (t : List ℕ) → 0 < k → soundBlocks k n t ≡ soundBlock n (block t (k - 1)) && soundBlocks (k - 1) n t
+-- b, the block of the last of k cores, is sound or not, as r says
+pub blocks-step : (k n : ℕ) (t b : List ℕ) (r : Bool) → 0 < k → b ≡ block t (k - 1) → r ≡ soundBlock n b → r && soundBlocks (k - 1) n t ≡ soundBlocks k n t
 unfolding soundBlocks
-blocks-step zero n t h = absurd (omega arith)
-blocks-step (suc k) n t h = let e : k ≡ suc k - 1 = omega arith in ap (λ (j : ℕ). soundBlock n (block t j) && soundBlocks j n t) e
+blocks-step zero n t b r h p q = absurd (omega arith)
+blocks-step (suc k) n t b r h p q =
+    let e : suc k - 1 ≡ k = omega arith in
+    ap (λ (s : Bool). s && soundBlocks (suc k - 1) n t) (q ∙ ap (soundBlock n) p) ∙ ap (λ (j : ℕ). soundBlock n (block t j) && soundBlocks j n t) e
 
 pub blocks-none : (k n : ℕ) (t : List ℕ) → k ≤ 0 → soundBlocks k n t ≡ true
 unfolding soundBlocks

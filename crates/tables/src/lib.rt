@@ -21,10 +21,9 @@ use layout::RUNNING;
 use layout::SIPIRR;
 use layout::SIPIVECT;
 ghost use mathlib.Core.Path.{_≡_};
-ghost use Prim.Native.Nat.{_+_, _*_, _<_, _≤_};
+ghost use Prim.Native.Nat.{_+_, _≤_};
 ghost use lib.ListN.{length};
-ghost use Rattle.layout.specs.Layout.{blockAt, blockWords};
-ghost use Rattle.layout.specs.Blocks.{block};
+ghost use Rattle.layout.specs.Layout.{blockAt};
 ghost use Rattle.tables.specs.Sound as x;
 
 // Whether the d words from i are zero.
@@ -68,25 +67,15 @@ pub fn sound_block(b: &[u32], bytes: usize) -> bool
     records::check::sound_records(b, bytes)
 }
 
-// Whether the block of core k is sound.
-fn sound_core(tables: &[u32], k: usize, bytes: usize) -> bool
-    requires { ⌜ (k < 4) × (blockAt k + blockWords ≤ length (now tables)) ⌝ }
-    ensures { λ r. ⌜ r ≡ x.soundBlock bytes (block (now (tables .entry)) k) ⌝ }
-{
-    let a = HEADER_WORDS + BLOCK_WORDS * k;
-    let e = a + BLOCK_WORDS;
-    sound_block(&tables[a..e], bytes)
-}
-
 // Whether the blocks of the first `cores` cores are sound.
-fn sound_blocks(tables: &[u32], cores: usize, bytes: usize) -> bool
+fn sound_blocks(tables: &[u32], cores: u32, bytes: usize) -> bool
     requires { ⌜ (cores ≤ 4) × (blockAt cores ≤ length (now tables)) ⌝ }
     ensures { λ r. ⌜ r ≡ x.soundBlocks cores bytes (now (tables .entry)) ⌝ }
 {
     let mut k = cores;
     while 0 < k {
         k -= 1;
-        if !sound_core(tables, k, bytes) {
+        if !sound_block(layout::block(tables, k), bytes) {
             return false;
         }
     }
@@ -117,6 +106,5 @@ pub fn sound(tables: &[u32], bytes: usize) -> bool
     if !sound_header(tables, bytes) {
         return false;
     }
-    let cores = tables[CORES] as usize;
-    sound_blocks(tables, cores, bytes)
+    sound_blocks(tables, tables[CORES], bytes)
 }

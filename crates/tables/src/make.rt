@@ -77,7 +77,7 @@ fn make_core(tables: &mut [u32], k: u32)
     requires { ⌜ (k < 4) × (blockAt k + blockWords ≤ length (now tables)) ⌝ }
     ensures { λ _. ⌜ now (tables .exit) ≡ withBlock (now (tables .entry)) k (x.madeBlock k) ⌝ }
 {
-    let a = HEADER_WORDS + BLOCK_WORDS * (k as usize);
+    let a = layout::block_at(k);
     let e = a + BLOCK_WORDS;
     make_block(&mut tables[a..e], k);
 }

@@ -19,11 +19,8 @@ returns c = sound-header-fail _ _ _ (not-true _ (c .if1 .taken)) (c .before .sou
 header : (c : tie.Else1) → Header (c .before .before .before .args .bytes) (now (c .before .before .before .args .tables))
 header c = header-of _ _ (sym (c .before .sound-header .ensures) ∙ not-false _ (c .if1 .left))
 
-shared-slice-read-cores : tie.Need-shared-slice-read-cores
-shared-slice-read-cores c = omega (arith, header (c .before))
-
-cast-cores : tie.Need-cast-cores
-cast-cores c = omega (arith, header (c .before))
+shared-slice-read-sound-blocks : tie.Need-shared-slice-read-sound-blocks
+shared-slice-read-sound-blocks c = omega (arith, header (c .before))
 
 sound-blocks-requires : tie.Need-sound-blocks-requires
 sound-blocks-requires c κs = let H = header (c .before) in (H .few-cores, omega (arith, H .long))
@@ -37,7 +34,6 @@ sound-spec =
     (tie.spec
     sound-header-requires
     returns
-    shared-slice-read-cores
-    cast-cores
+    shared-slice-read-sound-blocks
     sound-blocks-requires
     returns-2)

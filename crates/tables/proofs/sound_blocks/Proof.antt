@@ -23,17 +23,30 @@ loop-holds c = (omega arith, refl)
 sub-k : tie.Need-sub-k Inv-loop μ-loop
 sub-k c = omega arith
 
-sound-core-requires : tie.Need-sound-core-requires Inv-loop μ-loop
-sound-core-requires c κs = (omega arith, omega arith)
+block-requires : tie.Need-block-requires Inv-loop μ-loop
+block-requires c κs = omega arith
+
+sound-block-requires : tie.Need-sound-block-requires Inv-loop μ-loop
+sound-block-requires c κs = omega arith
 
 returns : tie.Need-returns Inv-loop μ-loop
-returns c = ap (λ (r : Bool). r && soundBlocks (c .before .before .before .loop .k - 1) (c .before .before .before .before .before .args .bytes) (now (c .before .before .before .before .before .args .tables))) (sym (not-true _ (c .if1 .taken)) ∙ c .before .sound-core .ensures) ∙ sym (blocks-step _ _ _ (c .before .before .loop-test .taken)) ∙ c .before .before .before .loop .inv .1
+returns c =
+    let l = c .before .before .before .before in
+    ap (λ (r : Bool). r && soundBlocks (l .loop .k - 1) (l .before .before .args .bytes) (now (l .before .before .args .tables))) (sym (not-true (c .before .sound-block .result) (c .if1 .taken)))
+    ∙ blocks-step (l .loop .k) _ _ _ _ (c .before .before .before .loop-test .taken) (c .before .before .block .ensures .0) (c .before .sound-block .ensures)
+    ∙ l .loop .inv .1
 
 loop-less : tie.Need-loop-less Inv-loop μ-loop
 loop-less c = omega arith
 
 loop-again : tie.Need-loop-again Inv-loop μ-loop
-loop-again c = (omega arith, ap (λ (r : Bool). r && soundBlocks (c .before .before .before .loop .k - 1) (c .before .before .before .before .before .args .bytes) (now (c .before .before .before .before .before .args .tables))) (sym (not-false _ (c .if1 .left)) ∙ c .before .sound-core .ensures) ∙ sym (blocks-step _ _ _ (c .before .before .loop-test .taken)) ∙ c .before .before .before .loop .inv .1)
+loop-again c =
+    let l = c .before .before .before .before in (
+      omega arith,
+      ap (λ (r : Bool). r && soundBlocks (l .loop .k - 1) (l .before .before .args .bytes) (now (l .before .before .args .tables))) (sym (not-false (c .before .sound-block .result) (c .if1 .left)))
+          ∙ blocks-step (l .loop .k) _ _ _ _ (c .before .before .before .loop-test .taken) (c .before .before .block .ensures .0) (c .before .sound-block .ensures)
+          ∙ l .loop .inv .1,
+    )
 
 returns-2 : tie.Need-returns-2 Inv-loop μ-loop
 returns-2 c = sym (blocks-none _ _ _ (c .loop-test .left)) ∙ c .before .loop .inv .1
@@ -46,7 +59,8 @@ sound-blocks-spec =
     μ-loop
     loop-holds
     sub-k
-    sound-core-requires
+    block-requires
+    sound-block-requires
     returns
     loop-less
     loop-again

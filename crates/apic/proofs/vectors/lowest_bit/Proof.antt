@@ -4,7 +4,7 @@ use Prim.Native.Nat.{ℕ, _-_, _≤_}
 use native.Mathlib.Omega.{arith}
 use borrow.Author.Count.{below-more}
 use Rattle.word.specs.Word.{bit}
-use Rattle.apic.proofs.Bits.{bit-zero}
+use Rattle.word.proofs.Bits.{bit-zero}
 use Rattle.apic.proofs.Least.{Unset, found-at, found-none}
 use Rattle.apic.proofs.vectors.lowest_bit.Statement.{statement}
 use Rattle.apic.proofs.vectors.lowest_bit.Tie as tie

@@ -1,18 +1,14 @@
 use borrow.Author.Needs.{needs}
 use Rattle.cores.proofs.commit.commit.Statement.{statement}
 use Rattle.cores.proofs.commit.commit.Tie as tie
-use mathlib.Core.Path.{sym, _∙_, ap, refl}
-use denote.Ref.{now}
-use Rattle.layout.specs.Blocks.{block, withBlock}
-use Rattle.layout.proofs.Blocks.{block-long, span}
-use Rattle.cores.specs.Commit.{tablesByPlan}
-use Prim.Native.Nat.{_+_, _*_}
+use mathlib.Core.Path.{_∙_, ap}
+use lib.ListN.{length}
+use Rattle.layout.proofs.Blocks.{part, part-done, block-long}
+use Rattle.records.specs.Records.{linked}
+use Rattle.cores.specs.Commit.{ready, blockAfter, headerAfter, tablesByPlan}
 
-mul-a : tie.Need-mul-a
-mul-a c = search needs
-
-add-a : tie.Need-add-a
-add-a c = search needs
+block-at-requires : tie.Need-block-at-requires
+block-at-requires c κs = search needs
 
 add-e : tie.Need-add-e
 add-e c = search needs
@@ -30,8 +26,12 @@ part-on-block-end : tie.Need-part-on-block-end
 part-on-block-end c = search needs
 
 on-block-requires : tie.Need-on-block-requires
-unfolding block
-on-block-requires c κs = rw (span (32 + 256 * c .before .before .before .args .k)) (block-long (now (c .before .before .before .args .t)) (c .before .before .before .args .k) (c .before .before .before .pre .0), (c .before .before .before .pre .1 .0, c .before .before .before .pre .1 .1 .1))
+on-block-requires c κs =
+    let s = c .before in
+    let a = s .before .before .before .args in
+    let p = s .before .before .before .pre in
+    let q = part (a .t .now) (a .k) (s .block-at .result) (s .block-at .ensures) in
+    (ap length q ∙ block-long (a .t .now) (a .k) (p .0), (ap linked q ∙ p .1 .0, ap (ready (a .p)) q ∙ p .1 .1 .1))
 
 beyond-block-requires : tie.Need-beyond-block-requires
 beyond-block-requires c κs = search needs
@@ -43,15 +43,19 @@ same-length-2 : tie.Need-same-length-2
 same-length-2 c = search needs
 
 returns : tie.Need-returns
-unfolding tablesByPlan block withBlock
-returns c = (c .before .before .before .before .beyond-block .ensures .0 ∙ simp (span, c .before .before .before .before .before .before .before .before .before .on-block .ensures), c .before .before .before .before .beyond-block .ensures .1)
+unfolding tablesByPlan
+returns c =
+    let i = c .before .before .before .before .before .before .before .before .before in
+    let s = i .before .before in
+    let a = s .before .before .before .args in
+    let d = c .before .before .before .before .beyond-block .ensures in
+    (d .0 ∙ ap (headerAfter (a .p .write)) (part-done (a .t .now) (a .k) (s .block-at .result) (s .block-at .ensures) (blockAfter (a .p)) (i .on-block .last .0) (i .on-block .ensures)), d .1)
 
 pub commit-spec : {M : Type 1} → statement M
 commit-spec =
     tie.close
     (tie.spec
-    mul-a
-    add-a
+    block-at-requires
     add-e
     mul-on-block
     sub-on-block

@@ -1,5 +1,5 @@
-use Rattle.layout.specs.Blocks.{block, withBlock}
 -- `ioapic::bus::broadcast` meets its contract. The invariant: the cores below j are done.
+use borrow.Author.Needs.{needs}
 use mathlib.Core.Path.{_≡_, refl, sym, ap, _∙_}
 use mathlib.Core.List.{List}
 use Prim.Native.Nat.{ℕ, _-_, _≤_}
@@ -9,8 +9,8 @@ use lib.Dec.{eqb}
 use Rattle.apic.specs.Active.{receivedBy}
 use Rattle.ioapic.specs.Blocks.{onBlock, onBlocks}
 use Rattle.ioapic.specs.Bus.{broadcast}
-use Rattle.ioapic.proofs.Loops.{span, one-more-block}
-use Rattle.layout.proofs.Blocks.{Has, block-long, with-long}
+use Rattle.ioapic.proofs.Loops.{one-more-block}
+use Rattle.layout.proofs.Blocks.{part-done}
 use Rattle.ioapic.proofs.bus.broadcast.Statement.{statement}
 use Rattle.ioapic.proofs.bus.broadcast.Tie as tie
 
@@ -25,11 +25,8 @@ loop-holds : tie.Need-loop-holds Inv-loop μ-loop
 unfolding onBlocks
 loop-holds c = (omega arith, (refl, refl))
 
-mul-a : tie.Need-mul-a Inv-loop μ-loop
-mul-a c = omega arith
-
-add-a : tie.Need-add-a Inv-loop μ-loop
-add-a c = omega arith
+block-at-requires : tie.Need-block-at-requires Inv-loop μ-loop
+block-at-requires c κs = search needs
 
 add-e : tie.Need-add-e Inv-loop μ-loop
 add-e c = omega arith
@@ -47,10 +44,7 @@ part-receive-end : tie.Need-part-receive-end Inv-loop μ-loop
 part-receive-end c = omega arith
 
 receive-requires : tie.Need-receive-requires Inv-loop μ-loop
-unfolding block withBlock
-receive-requires c κs =
-    let l = c .before .before .loop in
-    simp span (block-long (l .t) (l .j) (omega arith), c .before .before .before .before .pre .2)
+receive-requires c κs = search needs
 
 add-j : tie.Need-add-j Inv-loop μ-loop
 add-j c = omega arith
@@ -59,15 +53,17 @@ loop-less : tie.Need-loop-less Inv-loop μ-loop
 loop-less c = omega arith
 
 loop-again : tie.Need-loop-again Inv-loop μ-loop
-unfolding block withBlock
 loop-again c =
-    let l = c .before .before .before .before .before .loop in
-    let a = c .before .before .before .before .before .before .before .args in
-    let h : Has (l .t) (l .j) = omega arith in (
+    let s = c .before .before .before .before in
+    let l = s .before .before .loop in
+    let a = s .before .before .before .before .args in
+    let f : ℕ → List ℕ → List ℕ = λ j b. receivedBy (a .m) (eqb j (a .i)) b in (
       omega arith,
       (
-        simp span (with-long (l .t) (l .j) (c .before .before .receive .last .0) h (c .before .before .receive .kept .0 ∙ simp span (block-long (l .t) (l .j) h)) ∙ l .inv .1 .0),
-        simp (span, c .before .before .receive .ensures) (ap (λ (x : List ℕ). onBlock (receivedBy (a .m) (eqb (l .j) (a .i))) (l .j) x) (l .inv .1 .1)) ∙ sym (one-more-block (λ (j : ℕ) (b : List ℕ). receivedBy (a .m) (eqb j (a .i)) b) (l .j) (a .t .now)),
+        omega arith,
+        part-done (l .t) (l .j) (s .block-at .result) (s .block-at .ensures) (f (l .j)) (c .before .before .receive .last .0) (c .before .before .receive .ensures)
+            ∙ ap (onBlock (f (l .j)) (l .j)) (l .inv .1 .1)
+            ∙ sym (one-more-block f (l .j) (a .t .now)),
       ),
     )
 
@@ -89,8 +85,7 @@ broadcast-spec =
     Inv-loop
     μ-loop
     loop-holds
-    mul-a
-    add-a
+    block-at-requires
     add-e
     mul-receive
     sub-receive

@@ -1,17 +1,17 @@
-use Rattle.layout.specs.Blocks.{block, withBlock}
 -- `ioapic::bus::send_eoi` meets its contract.
 use borrow.Author.Needs.{needs}
-use mathlib.Core.Path.{_∙_}
+use mathlib.Core.Path.{ap, _∙_}
+use mathlib.Core.List.{List}
+use Prim.Native.Nat.{ℕ}
+use Rattle.apic.specs.Active.{eoiSent}
+use Rattle.ioapic.specs.IoApic.{eoiReceived}
 use Rattle.ioapic.specs.Bus.{sendEoi}
-use Rattle.ioapic.proofs.Loops.{span}
+use Rattle.layout.proofs.Blocks.{part-done}
 use Rattle.ioapic.proofs.bus.send_eoi.Statement.{statement}
 use Rattle.ioapic.proofs.bus.send_eoi.Tie as tie
 
-mul-a : tie.Need-mul-a
-mul-a c = search needs
-
-add-a : tie.Need-add-a
-add-a c = search needs
+block-at-requires : tie.Need-block-at-requires
+block-at-requires c κs = search needs
 
 add-e : tie.Need-add-e
 add-e c = search needs
@@ -38,15 +38,19 @@ same-length : tie.Need-same-length
 same-length c = search needs
 
 returns : tie.Need-returns
-unfolding sendEoi block withBlock
-returns c = c .before .before .end .ensures ∙ simp (span, c .before .before .before .before .before .before .eoi-sent .ensures)
+unfolding sendEoi
+returns c =
+    let i = c .before .before .before .before .before .before in
+    let s = i .before .before in
+    let a = s .before .before .args in
+    c .before .before .end .ensures
+    ∙ ap (λ (t : List ℕ). eoiReceived t (a .v)) (part-done (a .t .now) (a .i) (s .block-at .result) (s .block-at .ensures) (λ (b : List ℕ). eoiSent b (a .v)) (i .eoi-sent .last .0) (i .eoi-sent .ensures))
 
 pub send-eoi-spec : {M : Type 1} → statement M
 send-eoi-spec =
     tie.close
     (tie.spec
-    mul-a
-    add-a
+    block-at-requires
     add-e
     mul-eoi-sent
     sub-eoi-sent

@@ -1,17 +1,14 @@
-use Rattle.layout.specs.Blocks.{block, withBlock}
 -- `ioapic::bus::send_ipi` meets its contract.
 use borrow.Author.Needs.{needs}
-use mathlib.Core.Path.{_∙_}
-use Rattle.ioapic.specs.Bus.{sendIpi}
-use Rattle.ioapic.proofs.Loops.{span}
+use mathlib.Core.Path.{ap, _∙_}
+use Rattle.apic.specs.Active.{idle}
+use Rattle.ioapic.specs.Bus.{broadcast, sendIpi}
+use Rattle.layout.proofs.Blocks.{part-done}
 use Rattle.ioapic.proofs.bus.send_ipi.Statement.{statement}
 use Rattle.ioapic.proofs.bus.send_ipi.Tie as tie
 
-mul-a : tie.Need-mul-a
-mul-a c = search needs
-
-add-a : tie.Need-add-a
-add-a c = search needs
+block-at-requires : tie.Need-block-at-requires
+block-at-requires c κs = search needs
 
 add-e : tie.Need-add-e
 add-e c = search needs
@@ -38,15 +35,19 @@ same-length : tie.Need-same-length
 same-length c = search needs
 
 returns : tie.Need-returns
-unfolding sendIpi block withBlock
-returns c = c .before .before .broadcast .ensures ∙ simp (span, c .before .before .before .before .before .before .idle .ensures)
+unfolding sendIpi
+returns c =
+    let i = c .before .before .before .before .before .before in
+    let s = i .before .before in
+    let a = s .before .before .args in
+    c .before .before .broadcast .ensures
+    ∙ ap (broadcast (a .n) (a .i) (a .m)) (part-done (a .t .now) (a .i) (s .block-at .result) (s .block-at .ensures) idle (i .idle .last .0) (i .idle .ensures))
 
 pub send-ipi-spec : {M : Type 1} → statement M
 send-ipi-spec =
     tie.close
     (tie.spec
-    mul-a
-    add-a
+    block-at-requires
     add-e
     mul-idle
     sub-idle

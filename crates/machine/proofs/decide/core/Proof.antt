@@ -1,20 +1,11 @@
+-- `machine::decide::core` meets its contract.
+-- Assumes nothing.
 use borrow.Author.Needs.{needs}
+use mathlib.Core.Path.{_∙_, ap, refl}
+use lib.ListN.{length}
+use Rattle.records.specs.Contents.{soundRecords}
 use Rattle.machine.proofs.decide.core.Statement.{statement}
 use Rattle.machine.proofs.decide.core.Tie as tie
-use mathlib.Core.Path.{sym, _∙_, ap, refl}
-use denote.Ref.{now}
-use Prim.Native.Nat.{_+_, _*_}
-use Rattle.layout.specs.Blocks.{block, withBlock}
-use Rattle.layout.proofs.Blocks.{block-long, span}
-
-mul-a : tie.Need-mul-a
-mul-a c = search needs
-
-add-a : tie.Need-add-a
-add-a c = search needs
-
-add-e : tie.Need-add-e
-add-e c = search needs
 
 shared-slice-read-select : tie.Need-shared-slice-read-select
 shared-slice-read-select c = search needs
@@ -22,38 +13,18 @@ shared-slice-read-select c = search needs
 shared-slice-read-window : tie.Need-shared-slice-read-window
 shared-slice-read-window c = search needs
 
-mul-decide : tie.Need-mul-decide
-mul-decide c = search needs
-
-sub-decide : tie.Need-sub-decide
-sub-decide c = search needs
-
-part-decide-start : tie.Need-part-decide-start
-part-decide-start c = search needs
-
-part-decide-end : tie.Need-part-decide-end
-part-decide-end c = search needs
+block-requires : tie.Need-block-requires
+block-requires c κs = search needs
 
 decide-requires : tie.Need-decide-requires
-unfolding block
-decide-requires c κs = rw (span (32 + 256 * c .before .before .before .before .before .args .k)) ((block-long (now (c .before .before .before .before .before .args .t)) (c .before .before .before .before .before .args .k) (c .before .before .before .before .before .pre .0)), (c .before .before .before .before .before .pre .1 .0, c .before .before .before .before .before .pre .1 .1))
+decide-requires c κs =
+    let s = c .before .before .before .before .before in
+    (c .block .ensures .1, (ap (soundRecords (length (s .args .m .now))) (c .block .ensures .0) ∙ s .pre .1 .0, s .pre .1 .1))
 
 returns : tie.Need-returns
-unfolding block
-returns c = rw (c .decide .ensures, span (32 + 256 * c .before .before .before .before .before .before .args .k)) refl
+returns c = rw (c .decide .ensures, c .before .block .ensures .0) refl
 
 pub core-spec : {M : Type 1} → statement M
 core-spec =
     tie.close
-    (tie.spec
-    mul-a
-    add-a
-    add-e
-    shared-slice-read-select
-    shared-slice-read-window
-    mul-decide
-    sub-decide
-    part-decide-start
-    part-decide-end
-    decide-requires
-    returns)
+    (tie.spec shared-slice-read-select shared-slice-read-window block-requires decide-requires returns)

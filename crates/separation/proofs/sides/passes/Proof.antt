@@ -13,8 +13,8 @@ use Rattle.separation.proofs.sides.passes.Tie as tie
 is-member-requires : tie.Need-is-member-requires
 is-member-requires c κs = search needs
 
-core-requires : tie.Need-core-requires
-core-requires c κs = search needs
+block-requires : tie.Need-block-requires
+block-requires c κs = search needs
 
 runs-requires : tie.Need-runs-requires
 runs-requires c κs = search needs
@@ -24,11 +24,11 @@ user-mode-requires c κs = search needs
 
 returns : tie.Need-returns
 returns c =
-    let r = c .before .runs .ensures ∙ ap runs (c .before .before .core .ensures .0) in
-    let u = c .user-mode .ensures ∙ ap userMode (c .before .before .core .ensures .0) in
+    let r = c .before .runs .ensures ∙ ap runs (c .before .before .block .ensures .0) in
+    let u = c .user-mode .ensures ∙ ap userMode (c .before .before .block .ensures .0) in
     ap₂ (λ (p q : Bool). not (p || q) || (q && c .user-mode .result)) (c .before .before .before .is-member .ensures) r
     ∙ ap (λ (q : Bool). not (isSet (c .before .before .before .before .before .args .group) (c .before .before .before .before .before .args .k) || runs (block (now (c .before .before .before .before .before .args .t)) (c .before .before .before .before .before .args .k))) || (runs (block (now (c .before .before .before .before .before .args .t)) (c .before .before .before .before .before .args .k)) && q)) u
 
 pub passes-spec : {M : Type 1} → statement M
 passes-spec =
-    tie.close (tie.spec is-member-requires core-requires runs-requires user-mode-requires returns)
+    tie.close (tie.spec is-member-requires block-requires runs-requires user-mode-requires returns)

@@ -4,7 +4,6 @@ use borrow.Author.Needs.{needs}
 use mathlib.Core.Path.{_≡_, refl, sym, ap, ap₂, subst, _∙_}
 use Prim.Native.Nat.{ℕ, _≤_, _-_}
 use native.Mathlib.Omega.{arith}
-use mathlib.Core.Bool.{_&&_, not}
 use denote.Ref.{now}
 use Rattle.tables.specs.Views.{coresOf}
 use Rattle.separation.proofs.Deciding.{Others, others-none, others-put, others-all, byte-small}
@@ -27,17 +26,17 @@ loop-holds c = (refl, (omega arith, others-none _ _ _))
 is-member-requires : tie.Need-is-member-requires Inv-loop μ-loop
 is-member-requires c κs = omega arith
 
-core-requires : tie.Need-core-requires Inv-loop μ-loop
-core-requires c κs = (omega arith, omega arith)
+block-requires : tie.Need-block-requires Inv-loop μ-loop
+block-requires c κs = omega arith
 
 runs-requires : tie.Need-runs-requires Inv-loop μ-loop
-runs-requires c κs = c .core .ensures .1
+runs-requires c κs = c .block .ensures .1
 
 cast-put-bit : tie.Need-cast-put-bit Inv-loop μ-loop
 cast-put-bit c = search needs
 
 put-bit-requires : tie.Need-put-bit-requires Inv-loop μ-loop
-put-bit-requires c κs = (omega arith, byte-small (not (c .before .before .is-member .result) && c .runs .result))
+put-bit-requires c κs = (omega arith, search (needs, byte-small))
 
 add-k : tie.Need-add-k Inv-loop μ-loop
 add-k c = omega arith
@@ -50,7 +49,7 @@ loop-again c = (
   c .before .before .before .before .before .loop .inv .0,
   (
     omega arith,
-    others-put (c .before .before .before .is-member .ensures) (c .before .runs .ensures ∙ ap runs (c .before .before .core .ensures .0)) (c .put-bit .ensures)
+    others-put (c .before .before .before .is-member .ensures) (c .before .runs .ensures ∙ ap runs (c .before .before .block .ensures .0)) (c .put-bit .ensures)
         (c .before .before .before .before .before .loop .inv .1 .1),
   ),
 )
@@ -70,7 +69,7 @@ rest-spec =
     shared-slice-read-cores
     loop-holds
     is-member-requires
-    core-requires
+    block-requires
     runs-requires
     cast-put-bit
     put-bit-requires

@@ -1,16 +1,13 @@
 -- `tables::make::make_core` meets its contract: the block is lent as a part of the tables.
 -- Assumes nothing.
+use mathlib.Core.Path.{_∙_}
 use borrow.Author.Needs.{needs}
-use Rattle.layout.specs.Blocks.{withBlock}
-use Rattle.layout.proofs.Blocks.{span}
+use Rattle.layout.proofs.Blocks.{part-put}
 use Rattle.tables.proofs.make.make_core.Statement.{statement}
 use Rattle.tables.proofs.make.make_core.Tie as tie
 
-mul-a : tie.Need-mul-a
-mul-a c = search needs
-
-add-a : tie.Need-add-a
-add-a c = search needs
+block-at-requires : tie.Need-block-at-requires
+block-at-requires c κs = search needs
 
 add-e : tie.Need-add-e
 add-e c = search needs
@@ -34,15 +31,16 @@ same-length : tie.Need-same-length
 same-length c = search needs
 
 returns : tie.Need-returns
-unfolding withBlock
-returns c = simp (span, c .before .before .make-block .ensures)
+returns c =
+    let s = c .before .before .before .before in
+    part-put (s .before .before .args .tables .now) (s .before .before .args .k) (s .block-at .result) (s .block-at .ensures) (c .before .before .make-block .last .0)
+    ∙ rw (c .before .before .make-block .ensures)
 
 pub make-core-spec : {M : Type 1} → statement M
 make-core-spec =
     tie.close
     (tie.spec
-    mul-a
-    add-a
+    block-at-requires
     add-e
     mul-make-block
     sub-make-block

@@ -1,12 +1,12 @@
--- `apic::vectors::put_bit` meets its contract: nothing is shifted out of the word.
+-- `word::put_bit` meets its contract: nothing is shifted out of the word.
 use borrow.Author.Needs.{needs}
 use mathlib.Core.Path.{sym, subst}
 use Prim.Native.Nat.{ℕ, _^_, _<_}
 use native.Mathlib.Omega.{arith}
 use lib.Pow.{pow-pos, shr-le}
-use Rattle.apic.proofs.Bits.{one-exact, put-exact, put-lt}
-use Rattle.apic.proofs.vectors.put_bit.Statement.{statement}
-use Rattle.apic.proofs.vectors.put_bit.Tie as tie
+use Rattle.word.proofs.Bits.{one-exact, put-exact, put-below}
+use Rattle.word.proofs.put_bit.Statement.{statement}
+use Rattle.word.proofs.put_bit.Tie as tie
 
 shr-high : tie.Need-shr-high
 shr-high c = search needs
@@ -31,7 +31,7 @@ shl-result c = search needs
 
 add-result : tie.Need-add-result
 add-result c =
-    record { fits = subst (λ (n : ℕ). n < 2 ^ 32) (sym (put-exact (c .args .w) (c .args .i) (c .args .x) (c .fits .w .fits) (c .pre .0) (c .pre .1))) (put-lt (c .args .w) (c .args .i) (c .args .x) (c .fits .w .fits) (c .pre .0) (c .pre .1)) }
+    record { fits = subst (λ (n : ℕ). n < 2 ^ 32) (sym (put-exact (c .args .w) (c .args .i) (c .args .x) (c .fits .w .fits) (c .pre .0) (c .pre .1))) (put-below 32 (c .args .w) (c .args .i) (c .args .x) (c .fits .w .fits) (c .pre .0) (c .pre .1)) }
 
 returns : tie.Need-returns
 returns c = put-exact (c .args .w) (c .args .i) (c .args .x) (c .fits .w .fits) (c .pre .0) (c .pre .1)
