@@ -103,13 +103,25 @@ pub(crate) fn chain_length(b: &[u32], head: usize) -> usize
     l
 }
 
+// Whether an address is one of the local APIC's port bytes.
+pub fn is_local_port(a: usize) -> bool
+    ensures { λ r. ⌜ r ≡ y.localPort a ⌝ }
+{
+    (LOCAL_PORTS <= a) & (a < LOCAL_PORTS + LOCAL_PORT_BYTES)
+}
+
+// Whether an address is one of the I/O APIC's port bytes.
+pub fn is_io_port(a: usize) -> bool
+    ensures { λ r. ⌜ r ≡ y.ioPort a ⌝ }
+{
+    (IO_PORTS <= a) & (a < IO_PORTS + IO_PORT_BYTES)
+}
+
 // Whether a byte is in memory of `bytes` bytes or in a port.
 fn there(bytes: usize, a: usize) -> bool
     ensures { λ r. ⌜ r ≡ y.there bytes a ⌝ }
 {
-    (a < bytes)
-        | (((IO_PORTS <= a) & (a < IO_PORTS + IO_PORT_BYTES))
-            | ((LOCAL_PORTS <= a) & (a < LOCAL_PORTS + LOCAL_PORT_BYTES)))
+    (a < bytes) | (is_io_port(a) | is_local_port(a))
 }
 
 // Whether two bytes are there.

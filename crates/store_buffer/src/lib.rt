@@ -1,13 +1,12 @@
 // The store buffer of a core, and the memory that the core sees through it (specs/Buffer.antt, specs/System.antt).
-use layout::IO_PORT_BYTES;
 use layout::IO_PORTS;
-use layout::LOCAL_PORT_BYTES;
 use layout::LOCAL_PORTS;
 use layout::PORTS;
 use layout::RECORD_WORDS;
 use layout::RECORDS;
 use layout::STORE_HEAD;
 use records::Store;
+use records::check;
 ghost use mathlib.Core.Path.{_≡_};
 ghost use mathlib.Core.Bool.{true};
 ghost use mathlib.Core.List.{[]};
@@ -158,8 +157,7 @@ pub fn is_port(a: u32) -> bool
     ensures { λ r. ⌜ r ≡ y.isPort a ⌝ }
 {
     let at = a as usize;
-    ((LOCAL_PORTS <= at) & (at < LOCAL_PORTS + LOCAL_PORT_BYTES))
-        | ((IO_PORTS <= at) & (at < IO_PORTS + IO_PORT_BYTES))
+    check::is_local_port(at) | check::is_io_port(at)
 }
 
 // The d bytes of memory at an address.
@@ -185,10 +183,10 @@ fn read_beneath(b: &[u32], select: u32, window: u32, memory: &[u8], a: u32, d: u
     ensures { λ r. ⌜ r ≡ y.reads d (y.ms [] (y.portsOf (now (b .entry)) select window) (now (memory .entry))) a ⌝ }
 {
     let at = a as usize;
-    if (LOCAL_PORTS <= at) & (at < LOCAL_PORTS + LOCAL_PORT_BYTES) {
+    if check::is_local_port(at) {
         return Read::There(part(b[PORTS + (at - LOCAL_PORTS) / 4], a % 4, d));
     }
-    if (IO_PORTS <= at) & (at < IO_PORTS + IO_PORT_BYTES) {
+    if check::is_io_port(at) {
         if at - IO_PORTS < 4 {
             return Read::There(part(select, a % 4, d));
         }
@@ -249,10 +247,10 @@ pub fn destination(s: Store, bytes: usize) -> Place
 {
     let a = s.address;
     let at = a as usize;
-    if (LOCAL_PORTS <= at) & (at < LOCAL_PORTS + LOCAL_PORT_BYTES) {
+    if check::is_local_port(at) {
         return word_only(s, Place::LocalPort(word::sub(a, LOCAL_PORTS as u32)));
     }
-    if (IO_PORTS <= at) & (at < IO_PORTS + IO_PORT_BYTES) {
+    if check::is_io_port(at) {
         return word_only(s, Place::IoPort(word::sub(a, IO_PORTS as u32)));
     }
     if at + s.width as usize <= bytes {
