@@ -32,8 +32,8 @@ use Rattle.steps.specs.Form.{stepOf}
 use Rattle.cores.specs.Guards.{anyOf, settle}
 use Rattle.cores.specs.Plans.{finished}
 use Rattle.cores.specs.Core.{performed, onAddress, onData, onAccess, onInstruction, onWord, onFetchAddress, onFetch, fetch, judged, corePlan}
-use Rattle.cores.specs.Buffer.{onOldest}
-use Rattle.cores.specs.Walks.{adding, planned}
+use Rattle.cores.specs.BufferStep.{onOldest}
+use Rattle.cores.specs.TlbSteps.{adding, planned}
 use Rattle.machine.specs.Actions.{answerOf}
 use Rattle.machine.specs.Decide.{byStep, decided}
 use Rattle.machine.specs.Step.{Stepped, taken, step}
@@ -121,5 +121,5 @@ refused-8 = answers eight (page 0xAC000000) (of 0) 4096 (page-long 0xAC000000) e
 
 -- 9: a twenty-fourth walk
 pub refused-9 : step crowd (page 0) (of 1) .answer ≡ Refused 9
-unfolding stepOf byStep block crowd held chained walks chain tlbCreate planned adding among winit walkOf
+unfolding stepOf byStep block crowd held chained walks chain tlbCreate planned adding among winit walkOf registersOf
 refused-9 = answers crowd (page 0) (of 1) 4096 (page-long 0) crowd-sound

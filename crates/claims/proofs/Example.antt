@@ -18,7 +18,7 @@ use Rattle.layout.specs.Blocks.{block}
 use Rattle.records.specs.Records.{chain, count, each, all, stores, walks, among, differing, linked}
 use Rattle.records.specs.Contents.{soundRecords, storeSound, walkSound}
 use Rattle.tables.specs.Make.{chained}
-use Rattle.tables.specs.Views.{coresOf, pagesOf}
+use Rattle.tables.specs.Views.{coresOf, pagesOf, registersOf}
 use Rattle.tables.specs.Sound.{soundWords, soundBlock, soundBlocks, soundHeader, sound}
 use Rattle.tlb.specs.declared.Entry.the-variants.{Word, Missing}
 use Rattle.tlb.specs.Walks.{walkLevel, walkR, entryAt, pteaAt, complete}
@@ -31,7 +31,7 @@ use Rattle.cores.specs.declared.WalkChange.{WalkChange}
 use Rattle.cores.specs.declared.Write.the-variants.{Memory}
 use Rattle.cores.specs.declared.Plan.{Plan}
 use Rattle.cores.specs.Plans.{done}
-use Rattle.cores.specs.Buffer.{bufferStep, onOldest, leavesTo}
+use Rattle.cores.specs.BufferStep.{bufferStep, onOldest, leavesTo}
 use Rattle.cores.specs.Commit.{writtenTo, memoryByPlan}
 use Rattle.machine.proofs.Locality.{step-law}
 use Rattle.machine.proofs.Locality as plans
@@ -157,7 +157,7 @@ apart-big : apart 1 big (replicate 16384 0) ≡ true
 unfolding apart pagesApart inMemory all disjoint has
 apart-big =
     rw (big-rest, big-group, reach-is big 16384 0 0 2 big-0 (omega arith) (omega arith), reach-is big 16384 1 1 3 big-1 (omega arith) (omega arith), big-0, big-1)
-    (unfold big blockOf chained in refl)
+    (unfold big blockOf chained registersOf in refl)
 
 reach-none : (t m : List ℕ) → reach [] t m ≡ record { firsts = []; seconds = []; datas = []; writables = [] }
 unfolding reach firstPages secondPages dataPages writablePages flatMap
@@ -167,7 +167,7 @@ apart-little : apart 1 little (replicate 12288 0) ≡ true
 unfolding apart pagesApart inMemory all disjoint has
 apart-little =
     rw (little-rest, little-group, reach-is little 12288 0 0 2 little-0 (omega arith) (omega arith), reach-none little (replicate 12288 0), little-0)
-    (unfold little blockOf chained in refl)
+    (unfold little blockOf chained registersOf in refl)
 
 long : (n : ℕ) → length {A = ℕ} (replicate n 0) ≡ n
 long n = length-replicate n 0

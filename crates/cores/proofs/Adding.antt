@@ -1,15 +1,14 @@
 -- A walk that is added, and a store's bytes.
 -- Assumes nothing.
-use mathlib.Core.Path.{_≡_, refl, sym, _∙_, ap}
-use mathlib.Core.Logic.{_⊎_, inl, inr, ⊎-elim}
-use mathlib.Core.Bool.{Bool, true, false, not, _&&_, _||_}
+use mathlib.Core.Path.{_≡_, refl, sym, _∙_}
+use mathlib.Core.Logic.{_⊎_, ⊎-elim}
+use mathlib.Core.Bool.{Bool, true, false, _&&_, _||_}
 use mathlib.Core.List.{List}
 use Prim.Native.Nat.{ℕ, zero, suc, _+_, _*_, _/_, _%_, _^_, _<_, _≤_}
 use lib.Dec.{eqb, leb, ltb}
 use lib.ListN.{length}
 use native.Mathlib.Omega.{arith}
-use borrow.Author.Tests.{eq-eqb, ne-eqb, eqb-true, lt-ltb, le-ltb, ltb-true, le-leb, lt-leb}
-use Rattle.word.specs.Word.{if_then_else_}
+use borrow.Author.Tests.{ne-eqb, eqb-true, lt-ltb, le-ltb, le-leb, lt-leb}
 use Rattle.word.proofs.Laws.{side}
 use Rattle.word.proofs.Tests.{true-false}
 use Rattle.records.specs.declared.Walk.{Walk}
@@ -22,7 +21,7 @@ use Rattle.cores.specs.declared.BufferChange.{BufferChange}
 use Rattle.cores.specs.declared.WalkChange.the-variants.{Add}
 use Rattle.cores.specs.declared.Write.{Write}
 use Rattle.cores.specs.Plans.{refused, done}
-use Rattle.cores.specs.Walks.{adding}
+use Rattle.cores.specs.TlbSteps.{adding}
 
 module _ (tlb : List Walk) (free : Bool) (w : Walk) where
   pub adding-held : among w tlb ≡ true → done BufferChange.Nothing (Add w) Write.Nothing ≡ adding tlb free w

@@ -32,7 +32,7 @@ use Rattle.cores.proofs.Sounds.{storeBrought, walkBrought, planSound}
 -- the causes and the event of an interrupt
 abbrev pub CoreWords : CoreChange → Type 0
 CoreWords CoreChange.Nothing = Unit {0}
-CoreWords (Interrupt w R ca k) = (ca < 2 ^ 32) × (k < 2 ^ 32)
+CoreWords (Interrupt x) = (x .causes < 2 ^ 32) × (x .vector < 2 ^ 32)
 CoreWords Return = Unit {0}
 CoreWords (Execute i w R) = Unit {0}
 
@@ -59,7 +59,7 @@ pub record PlanWords (p : Plan) : Type 0 where
 core-words : (c : CoreChange) (b : List ℕ) → CoreWords c → Words b → Words (coreAfter c b)
 unfolding coreAfter
 core-words CoreChange.Nothing b h w = w
-core-words (Interrupt x R ca k) b h w = kept-jisr _ .words (with-words b _ w (jisr-words (registersOf b) x R ca k (h .0) (h .1) (block-registers b w)))
+core-words (Interrupt x) b h w = kept-jisr _ .words (with-words b _ w (jisr-words (registersOf b) (x .word) (x .read) (x .causes) (x .vector) (h .0) (h .1) (block-registers b w)))
 core-words Return b h w = kept-rfe _ .words (with-words b _ w (rfe-words (registersOf b) (block-registers b w)))
 core-words (Execute i x R) b h w = with-words b _ w (effect-words i (registersOf b) x (block-registers b w) R)
 

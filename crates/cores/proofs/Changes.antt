@@ -1,11 +1,11 @@
 -- What the parts of a plan leave of a block: its length, its stores and its walks.
 -- Assumes nothing.
-use mathlib.Core.Path.{_≡_, refl, sym, _∙_, ap}
+use mathlib.Core.Path.{_≡_, refl, _∙_}
 use mathlib.Core.Logic.{inl, inr}
 use mathlib.Core.Bool.{Bool, true, false, _||_}
-use mathlib.Core.List.{List, _++_, _∷_, []}
-use Prim.Native.Nat.{ℕ, _<_}
-use lib.ListN.{length, getD, set, length-set}
+use mathlib.Core.List.{List}
+use Prim.Native.Nat.{ℕ}
+use lib.ListN.{length, set, length-set}
 use lib.Dec.{ltb, eqb}
 use native.Mathlib.Omega.{arith}
 use borrow.Author.Tests.{ltb-true}
@@ -18,14 +18,11 @@ use Rattle.decode.specs.declared.Instruction.{Instruction}
 use Rattle.decode.specs.Fields.{rd, rt}
 use Rattle.decode.specs.Mnemonics.{movg2s}
 use Rattle.decode.specs.Table.{decoded}
-use Rattle.records.specs.declared.Store.{Store}
-use Rattle.records.specs.declared.Walk.{Walk}
-use Rattle.records.specs.Records.{linked, stores, walks, among, putStore, takeStore, addWalk, dropWalks}
+use Rattle.records.specs.Records.{linked, stores, walks, among}
 use Rattle.records.proofs.Frame.{Alike, same-stores, same-walks, same-linked}
-use Rattle.records.proofs.Laws.{After, take-law, put-law, add-law, drop-law}
+use Rattle.records.proofs.Laws.{take-law, put-law, add-law, drop-law}
 use Rattle.tables.specs.Views.{registersOf, withRegisters}
 use Rattle.tables.proofs.Bank.{registers-size, put-long, put-above}
-use Rattle.apic.specs.LocalApic as apic
 use Rattle.apic.proofs.Kept.{Kept, Passive, kept-jisr, kept-rfe}
 use Rattle.cores.specs.declared.CoreChange.{CoreChange}
 use Rattle.cores.specs.declared.CoreChange.the-variants.{Interrupt, Return, Execute}
@@ -89,8 +86,8 @@ module _ (b : List ℕ) (long : length b ≡ 256) (e : linked b ≡ true) where
   pub core-left : (c : CoreChange) → Left b (coreAfter c b)
   unfolding coreAfter
   core-left CoreChange.Nothing = record { long = long; chains = e; same-sb = refl; same-tlb = refl }
-  core-left (Interrupt w R ca k) =
-      let L = registers-left _ (jisr-full (registersOf b) w R ca k (registers-size b long)) in
+  core-left (Interrupt x) =
+      let L = registers-left _ (jisr-full (registersOf b) (x .word) (x .read) (x .causes) (x .vector) (registers-size b long)) in
       next L (passive (L .long) (L .chains) (kept-jisr _))
   core-left Return =
       let L = registers-left _ (rfe-full (registersOf b) (registers-size b long)) in

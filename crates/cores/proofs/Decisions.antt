@@ -25,7 +25,8 @@ use Rattle.tlb.specs.declared.Entry.{Entry}
 use Rattle.tlb.specs.declared.Entry.the-variants.{Word, Missing}
 use Rattle.tlb.specs.declared.Decision.the-variants.{Refused, Adds, Marks}
 use Rattle.tlb.specs.Walks.{pteA, pteP, ptea, pte, winit, wext, wextFault, set-d}
-use Rattle.tlb.specs.Steps.{userMode, runs, asidOf, originOf, extendable, tlbCreate, tlbExtend, tlbAccessed, onExtend, onAccessed, createOn, extendOn, accessedOn}
+use Rattle.tables.specs.Views.{userMode, runs, asidOf}
+use Rattle.tlb.specs.Steps.{originOf, extendable, tlbCreate, tlbExtend, tlbAccessed, onExtend, onAccessed, createOn, extendOn, accessedOn}
 use Rattle.tlb.proofs.Fields.{winit-sound, wext-sound, winit-first, wext-first, ptea-aligned}
 use Rattle.tlb.proofs.Steps.{entry-word, entry-lt, held-sound, is-held}
 use Rattle.store_buffer.specs.declared.Place.the-variants as to
@@ -43,8 +44,8 @@ use Rattle.cores.specs.declared.Write.the-variants.{Memory, LocalPort, I
 use Rattle.cores.specs.declared.Plan.{Plan}
 use Rattle.cores.specs.Plans.{refused, done}
 use Rattle.cores.specs.Core.{isFree}
-use Rattle.cores.specs.Walks.{adding, planned}
-use Rattle.cores.specs.Buffer.{leavesTo, onOldest, bufferStep}
+use Rattle.cores.specs.TlbSteps.{adding, planned}
+use Rattle.cores.specs.BufferStep.{leavesTo, onOldest, bufferStep}
 use Rattle.cores.specs.Commit.{bufferReady, walksReady, portReady, ready, fits}
 use Rattle.cores.proofs.Sounds.{storeBrought, walkBrought, planSound}
 use Rattle.cores.proofs.Bounds.{CoreWords, AddWords, PortWords, PlanWords}

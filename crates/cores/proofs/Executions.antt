@@ -40,6 +40,7 @@ use Rattle.apic.specs.LocalApic.{event, eev}
 use Rattle.apic.proofs.Least.{least-vector}
 use Rattle.steps.specs.declared.Answer.the-variants.{Done}
 use Rattle.cores.specs.declared.CoreChange.the-variants.{Return, Execute}
+use Rattle.cores.specs.declared.IoPorts.{IoPorts}
 use Rattle.cores.specs.declared.BufferChange.{BufferChange}
 use Rattle.cores.specs.declared.BufferChange.the-variants.{Put}
 use Rattle.cores.specs.declared.WalkChange.{WalkChange}
@@ -49,7 +50,7 @@ use Rattle.cores.specs.declared.Write.the-variants.{Memory}
 use Rattle.cores.specs.declared.Plan.{Plan}
 use Rattle.cores.specs.Guards.{Judged, yield, settle, anyOf, isFailure, isUndecided}
 use Rattle.cores.specs.Plans.{refused, interrupted, changed, finished}
-use Rattle.cores.specs.Core.{View, viewOf, causes, causesWithout, suppressed, stopped, faulted, faultOf, physical, onLoad, onStore, exchanged, onCas, storedFrom, performed, droppedBy, plain, withoutAccess, isAccess, dataRequestOf, onAddress, onData, onAccess, onInstruction, fetchRequestOf, onWord, onFetchAddress, onFetch, fetch, judged, corePlan, isEvent, vectorOf}
+use Rattle.cores.specs.Core.{View, viewOf, portsBeside, causes, causesWithout, suppressed, stopped, faulted, faultOf, physical, onLoad, onStore, exchanged, onCas, storedFrom, performed, droppedBy, plain, withoutAccess, isAccess, dataRequestOf, onAddress, onData, onAccess, onInstruction, fetchRequestOf, onWord, onFetchAddress, onFetch, fetch, judged, corePlan, isEvent, vectorOf}
 use Rattle.cores.specs.Commit.{bufferReady, walksReady, portReady, fits}
 use Rattle.cores.proofs.Accesses.{access-aligned, cas-width}
 use Rattle.cores.proofs.Held.{same-offset}
@@ -103,7 +104,7 @@ stored-sound n c i w a e t =
     (and-both (eqb (a % d i) 0) _ (and-right (sized (d i)) _ e) (and-both (ltb (sv i c w) (256 ^ d i)) _ (low-fits (gprAt c (rt w)) (d i) s) t))
 
 -- a view whose pending stores are those of the block b, and whose event is a word
-module _ (b m : List ℕ) (whole : length m % 4 ≡ 0) (v : View) (held : v .sb ≡ stores b) (event : vectorOf (v .eev) < 2 ^ 32) where
+module _ (b m : List ℕ) (whole : length m % 4 ≡ 0) (v : View) (io : IoPorts) (held : v .sb ≡ stores b) (event : vectorOf (v .eev) < 2 ^ 32) where
   -- an interrupt or not, the other changes are the same
   finished-doable : (i : Instruction) (w R ca : ℕ) (c : BufferChange) (ws : WalkChange) (x : Write) → ca < 2 ^ 32 → AllowedChanges (length m) b c ws x → Doable (length m) b (finished i w R ca (vectorOf (v .eev)) c ws x)
   unfolding finished
@@ -155,13 +156,13 @@ module _ (b m : List ℕ) (whole : length m % 4 ≡ 0) (v : View) (held : v .sb 
       go true = word-change (length m) b a (gprAt (v .core) (rt w)) (omega (arith, first-there m a x p)) e
       go false = unchanged (length m) b
 
-  performed-doable : (i : Instruction) (w ca a : ℕ) → ca < 2 ^ 32 → isAccess i ≡ true → aligned a (d i) ≡ true → Doable (length m) b (performed v m i w ca a)
+  performed-doable : (i : Instruction) (w ca a : ℕ) → ca < 2 ^ 32 → isAccess i ≡ true → aligned a (d i) ≡ true → Doable (length m) b (performed v io m i w ca a)
   unfolding performed
   performed-doable i w ca a c p e = go (load i) (store i) refl refl
     where
       go : (l s : Bool) → load i ≡ l → store i ≡ s →
-          Doable (length m) b (if l then onLoad v i w ca (loaded (v .sb) (v .ports) m a (d i)) else if s then onStore v i w ca (storedFrom (v .core) i w a) (allThere (d i) (length m) a) else onCas v i w ca a (reads 4 (memoryByte m) a))
-      go true s x y = load-doable i w ca (loaded (v .sb) (v .ports) m a (d i)) c
+          Doable (length m) b (if l then onLoad v i w ca (loaded (v .sb) (portsBeside v io) m a (d i)) else if s then onStore v i w ca (storedFrom (v .core) i w a) (allThere (d i) (length m) a) else onCas v i w ca a (reads 4 (memoryByte m) a))
+      go true s x y = load-doable i w ca (loaded (v .sb) (portsBeside v io) m a (d i)) c
       go false true x y = store-doable i w ca (storedFrom (v .core) i w a) (allThere (d i) (length m) a) c (stored-sound (length m) (v .core) i w a e)
       go false false x y = cas-doable i w ca a (reads 4 (memoryByte m) a) c refl (multiple a (d i) 4 e (cas-width i p x y))
 
@@ -176,17 +177,17 @@ module _ (b m : List ℕ) (whole : length m % 4 ≡ 0) (v : View) (held : v .sb 
 
   -- ---- the effects of the judged parts
 
-  address-doable : (i : Instruction) (w a : ℕ) → isAccess i ≡ true → a % 4 ≡ ea i (v .core) w % 4 → Doable (length m) b (onAddress v m i w a .effect)
+  address-doable : (i : Instruction) (w a : ℕ) → isAccess i ≡ true → a % 4 ≡ ea i (v .core) w % 4 → Doable (length m) b (onAddress v io m i w a .effect)
   unfolding onAddress
   address-doable i w a p q = go (suppressed (causes v i w false)) refl
     where
       go : (t : Bool) → suppressed (causes v i w false) ≡ t →
-          Doable (length m) b (if t then stopped v w (causes v i w false) WalkChange.Nothing else performed v m i w (causes v i w false) a)
+          Doable (length m) b (if t then stopped v w (causes v i w false) WalkChange.Nothing else performed v io m i w (causes v i w false) a)
       go true e = nothing-doable w (causes v i w false) (cause-lt i w false)
       go false e = performed-doable i w (causes v i w false) a (cause-lt i w false) p (access-aligned i (v .core) w a (isEvent (v .eev)) false p e q)
 
   module _ (wR : Walk) where
-    data-doable : (i : Instruction) (w : ℕ) (f : Faulting) → isAccess i ≡ true → Doable (length m) b (onData v m wR i w f .effect)
+    data-doable : (i : Instruction) (w : ℕ) (f : Faulting) → isAccess i ≡ true → Doable (length m) b (onData v io m wR i w f .effect)
     unfolding onData
     data-doable i w Passes p = address-doable i w (physical v wR (ea i (v .core) w)) p (same-offset (user (v .core)) (walkBa wR) (ea i (v .core) w))
     data-doable i w Faults p = faulted-doable w (causes v i w true) (ea i (v .core) w) (cause-lt i w true)
@@ -199,36 +200,36 @@ module _ (b m : List ℕ) (whole : length m % 4 ≡ 0) (v : View) (held : v .sb 
         go true = nothing-doable w (causes v i w false) (cause-lt i w false)
         go false = plain-doable i w (causes v i w false) (cause-lt i w false)
 
-    instruction-doable : (i : Instruction) (w : ℕ) → Doable (length m) b (onInstruction v m wR i w .effect)
+    instruction-doable : (i : Instruction) (w : ℕ) → Doable (length m) b (onInstruction v io m wR i w .effect)
     unfolding onInstruction onAccess
     instruction-doable i w = go (isAccess i) refl
       where
-        go : (t : Bool) → isAccess i ≡ t → Doable (length m) b ((if t then onAccess v m wR i w else yield (withoutAccess v i w)) .effect)
+        go : (t : Bool) → isAccess i ≡ t → Doable (length m) b ((if t then onAccess v io m wR i w else yield (withoutAccess v i w)) .effect)
         go true p = data-doable i w (faultOf v m (dataRequestOf (v .core) i w) wR) p
         go false p = without-doable i w
 
-    word-doable : (r : Read) → Doable (length m) b (onWord v m wR r .effect)
+    word-doable : (r : Read) → Doable (length m) b (onWord v io m wR r .effect)
     unfolding onWord
     word-doable (There w) = instruction-doable (decoded w) w
     word-doable Nowhere = refused-doable (length m) b 7
 
-    fetch-doable : (wI : Walk) (f : Faulting) → Doable (length m) b (onFetch v m wI wR f .effect)
+    fetch-doable : (wI : Walk) (f : Faulting) → Doable (length m) b (onFetch v io m wI wR f .effect)
     unfolding onFetch onFetchAddress
     fetch-doable wI Passes = word-doable (reads 4 (memoryByte m) (physical v wI (v .core .pc)))
     fetch-doable wI Faults = faulted-doable 0 (causesWithout v false true) (v .core .pc) (without-lt false true)
     fetch-doable wI Undecided = refused-doable (length m) b 7
 
-    judged-doable : (wI : Walk) → Doable (length m) b (judged v m wI wR .effect)
+    judged-doable : (wI : Walk) → Doable (length m) b (judged v io m wI wR .effect)
     unfolding judged fetch
     judged-doable wI = go (eqb (v .core .pc % 4) 0)
       where
-        go : (t : Bool) → Doable (length m) b ((if t then fetch v m wI wR else yield (stopped v 0 (causesWithout v true false) WalkChange.Nothing)) .effect)
+        go : (t : Bool) → Doable (length m) b ((if t then fetch v io m wI wR else yield (stopped v 0 (causesWithout v true false) WalkChange.Nothing)) .effect)
         go true = fetch-doable wI (faultOf v m (fetchRequestOf (v .core)) wI)
         go false = nothing-doable 0 (causesWithout v true false) (without-lt true false)
 
-    step-doable : (wI : Walk) → Doable (length m) b (corePlan v m wI wR)
+    step-doable : (wI : Walk) → Doable (length m) b (corePlan v io m wI wR)
     unfolding corePlan
-    step-doable wI = settled (λ p. Doable (length m) b p) (refused-doable (length m) b) (judged v m wI wR) (judged-doable wI)
+    step-doable wI = settled (λ p. Doable (length m) b p) (refused-doable (length m) b) (judged v io m wI wR) (judged-doable wI)
 
 -- the event of a block is a vector
 vector-lt : (f : Found) → isVector f ≡ true → vectorOf f < 2 ^ 32
@@ -239,5 +240,5 @@ event-lt : (b : List ℕ) → vectorOf (event b) < 2 ^ 32
 unfolding event
 event-lt b = vector-lt (event b) (least-vector (eev b))
 
-pub core-plan : (b m : List ℕ) (select window : ℕ) (wI wR : Walk) → length m % 4 ≡ 0 → MayBeDone (length m) b (corePlan (viewOf b select window) m wI wR)
-core-plan b m select window wI wR q = may-be-done (step-doable b m q (viewOf b select window) refl (event-lt b) wR wI)
+pub core-plan : (b : List ℕ) (io : IoPorts) (m : List ℕ) (wI wR : Walk) → length m % 4 ≡ 0 → MayBeDone (length m) b (corePlan (viewOf b) io m wI wR)
+core-plan b io m wI wR q = may-be-done (step-doable b m q (viewOf b) io refl (event-lt b) wR wI)

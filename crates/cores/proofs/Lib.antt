@@ -1,7 +1,6 @@
 pub mod Settle
 pub mod Asked
 pub mod Free
-pub mod Words
 pub mod Accesses
 pub mod Held
 pub mod Judging

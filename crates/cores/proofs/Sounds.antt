@@ -64,7 +64,7 @@ planSound n p = storeBrought n (p .buffer) && walkBrought (p .walks)
 
 abbrev pub registersAfter : CoreChange → Registers → Registers
 registersAfter CoreChange.Nothing r = r
-registersAfter (Interrupt w R ca k) r = deltaJisr r w R ca k
+registersAfter (Interrupt x) r = deltaJisr r (x .word) (x .read) (x .causes) (x .vector)
 registersAfter Return r = deltaRfe r
 registersAfter (Execute i w R) r = effect i r w R
 
@@ -197,9 +197,9 @@ module _ (n : ℕ) (b : List ℕ) (long : length b ≡ 256) (e : soundBlock n b 
   core-shows : (c : CoreChange) → Shows n (coreAfter c b) (registersAfter c (registersOf b)) (runningOf b) (stores b) (walks b)
   unfolding coreAfter
   core-shows CoreChange.Nothing = itself n b long e
-  core-shows (Interrupt w R ca k) =
+  core-shows (Interrupt x) =
       then-passive
-      (registers-shows n b long e (deltaJisr (registersOf b) w R ca k) (jisr-full (registersOf b) w R ca k (registers-size b long)) (jisr-zero (registersOf b) w R ca k ∙ zero-kept))
+      (registers-shows n b long e (deltaJisr (registersOf b) (x .word) (x .read) (x .causes) (x .vector)) (jisr-full (registersOf b) (x .word) (x .read) (x .causes) (x .vector) (registers-size b long)) (jisr-zero (registersOf b) (x .word) (x .read) (x .causes) (x .vector) ∙ zero-kept))
       (kept-jisr _)
   core-shows Return =
       then-passive

@@ -29,7 +29,7 @@ use Rattle.cores.specs.declared.Plan.{Plan}
 -- an interrupt and a return are also signals to the local APIC
 unfoldable pub coreAfter : CoreChange → List ℕ → List ℕ
 coreAfter CoreChange.Nothing b = b
-coreAfter (Interrupt w R ca k) b = apic.onJisr (withRegisters b (deltaJisr (registersOf b) w R ca k))
+coreAfter (Interrupt x) b = apic.onJisr (withRegisters b (deltaJisr (registersOf b) (x .word) (x .read) (x .causes) (x .vector)))
 coreAfter Return b = apic.onRfe (withRegisters b (deltaRfe (registersOf b)))
 coreAfter (Execute i w R) b = withRegisters b (effect i (registersOf b) w R)
 

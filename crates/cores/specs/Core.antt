@@ -1,8 +1,9 @@
 -- A step of a core (11.3, a = (core, wI, wR, i)), on what its block, the I/O APIC's ports and memory show.
 -- Assumes nothing.
+use mathlib.Core.Path.{_≡_}
 use mathlib.Core.Bool.{Bool, true, false, not, _&&_, _||_}
 use mathlib.Core.List.{List, [], _∷_}
-use Prim.Native.Nat.{ℕ, _+_, _*_, _/_, _%_, _^_}
+use Prim.Native.Nat.{ℕ, _+_, _*_, _%_, _^_}
 use lib.Dec.{eqb, leb}
 use lib.ListN.{length, getD}
 use Rattle.word.specs.Word.{if_then_else_}
@@ -12,27 +13,28 @@ use Rattle.decode.specs.Fields.{rs, rd, rt}
 use Rattle.decode.specs.Table.{decoded}
 use Rattle.decode.specs.Mnemonics.{load, store, cas, mfence, flush, invlpg}
 use Rattle.isa.specs.declared.registers.Registers.{Registers}
-use Rattle.isa.specs.Core.{gprAt, sprAt, ea, d, sv}
-use Rattle.isa.specs.Interrupts.{user, eventsAs, eventsWithout, causesOf, jisr, il, continues}
+use Rattle.isa.specs.Core.{gprAt, ea, d, sv}
+use Rattle.isa.specs.Interrupts.{user, asid, eventsAs, eventsWithout, causesOf, jisr, il, continues}
 use Rattle.records.specs.declared.Walk.{Walk}
 use Rattle.records.specs.declared.Store.{Store}
 use Rattle.records.specs.declared.Flush.the-variants.{All, Page, Incomplete}
 use Rattle.records.specs.Records.{among, stores, walks}
-use Rattle.records.specs.Contents.{allThere}
+use Rattle.records.specs.Contents.{allThere, soundRecords}
 use Rattle.tlb.specs.declared.Request.{Request}
 use Rattle.tlb.specs.declared.Faulting.{Faulting}
 use Rattle.tlb.specs.declared.Faulting.the-variants.{Faults, Passes, Undecided}
 use Rattle.tlb.specs.Walks.{walkBa, complete, hit, fault, fetchR, loadR, storeR, baseAddress, pageKey}
-use Rattle.tables.specs.Views.{registersOf, runningOf}
+use Rattle.tables.specs.Views.{registersOf, runs, ioregselOf, iowinOf, portWordsOf}
 use Rattle.store_buffer.specs.declared.Read.{Read}
 use Rattle.store_buffer.specs.declared.Read.the-variants.{There, Nowhere}
 use Rattle.store_buffer.specs.declared.Loaded.{Loaded}
 use Rattle.store_buffer.specs.declared.Loaded.the-variants.{Value, Hazard}
 use Rattle.store_buffer.specs.Buffer.{sbhazard}
-use Rattle.store_buffer.specs.System.{Ports, portsOf, isPort, memoryByte, reads, loaded}
+use Rattle.store_buffer.specs.System.{Ports, isPort, memoryByte, reads, loaded}
 use Rattle.apic.specs.declared.vectors.Found.{Found}
 use Rattle.apic.specs.declared.vectors.Found.the-variants.{Vector, None}
 use Rattle.apic.specs.LocalApic.{event}
+use Rattle.cores.specs.declared.IoPorts.{IoPorts}
 use Rattle.cores.specs.declared.BufferChange.{BufferChange}
 use Rattle.cores.specs.declared.BufferChange.the-variants.{Put}
 use Rattle.cores.specs.declared.WalkChange.{WalkChange}
@@ -43,7 +45,7 @@ use Rattle.cores.specs.declared.Plan.{Plan}
 use Rattle.cores.specs.Guards.{Guard, undecided, test, Judged, yield, ask, settle}
 use Rattle.cores.specs.Plans.{refused, interrupted, finished}
 
--- what a core shows: its registers, whether it runs, pending stores, walks, whether a record is free, external event and ports
+-- what a core shows: its registers, whether it runs, pending stores, walks, whether a record is free, external event, and the port words of its local APIC
 pub record View : Type 0 where
   pub core : Registers
   pub running : Bool
@@ -51,23 +53,37 @@ pub record View : Type 0 where
   pub tlb : List Walk
   pub free : Bool
   pub eev : Found
-  pub ports : Ports
+  pub apic : List ℕ
 
 abbrev pub isFree : List ℕ → Bool
 isFree b = not (eqb (getD b layout.freeHead 0) 0)
 
--- of a block, beside the words IOREGSEL and IOWIN
-abbrev pub viewOf : List ℕ → ℕ → ℕ → View
-viewOf b select window =
+-- of a block
+abbrev pub viewOf : List ℕ → View
+viewOf b =
     record {
       core = registersOf b;
-      running = eqb (runningOf b) 1;
+      running = runs b;
       sb = stores b;
       tlb = walks b;
       free = isFree b;
       eev = event b;
-      ports = portsOf b select window;
+      apic = portWordsOf b;
     }
+
+-- the I/O APIC's port words in the tables
+abbrev pub ioPortsOf : List ℕ → IoPorts
+ioPortsOf t = record { select = ioregselOf t; window = iowinOf t }
+
+-- the port words that a core sees
+abbrev pub portsBeside : View → IoPorts → Ports
+portsBeside v io = record { apic = v .apic; select = io .select; window = io .window }
+
+-- what a core's step asks of its block b and of the memory m: 256 words, sound records, and whole words of memory
+pub record SoundBeside (b m : List ℕ) : Type 0 where
+  pub long : length b ≡ 256
+  pub records : soundRecords (length m) b ≡ true
+  pub whole : length m % 4 ≡ 0
 
 -- ∨ eev[i], and min { j | eev[j] = 1 }
 abbrev pub isEvent : Found → Bool
@@ -98,12 +114,9 @@ stopped v w ca ws = interrupted w 0 ca (vectorOf (v .eev)) BufferChange.Nothing 
 
 -- ---- translation
 
-abbrev pub asidOf : Registers → ℕ
-asidOf c = sprAt c layout.asid % 2 ^ 6
-
 -- the walks of a faulting page go
 abbrev pub faulted : Registers → ℕ → WalkChange
-faulted c a = Drop (Page (pageKey (baseAddress a) (asidOf c)))
+faulted c a = Drop (Page (pageKey (baseAddress a) (asid c)))
 
 -- in user mode the walk is held and matches the request
 abbrev pub walkGuard : View → Request → Walk → Guard
@@ -147,9 +160,9 @@ abbrev pub storedFrom : Registers → Instruction → ℕ → ℕ → Store
 storedFrom c i w a = record { address = a; value = sv i c w; width = d i }
 
 -- a load, store or cas at the physical address a
-unfoldable pub performed : View → List ℕ → Instruction → ℕ → ℕ → ℕ → Plan
-performed v m i w ca a =
-    if load i then onLoad v i w ca (loaded (v .sb) (v .ports) m a (d i))
+unfoldable pub performed : View → IoPorts → List ℕ → Instruction → ℕ → ℕ → ℕ → Plan
+performed v io m i w ca a =
+    if load i then onLoad v i w ca (loaded (v .sb) (portsBeside v io) m a (d i))
     else if store i then onStore v i w ca (storedFrom (v .core) i w a) (allThere (d i) (length m) a)
     else onCas v i w ca a (reads 4 (memoryByte m) a)
 
@@ -180,7 +193,7 @@ abbrev pub findsBuffer : List Store → Instruction → Bool
 findsBuffer sb i = not (cas i || mfence i) || eqb (length sb) 0
 
 abbrev pub dataRequestOf : Registers → Instruction → ℕ → Request
-dataRequestOf c i w = record { asid = asidOf c; va = ea i c w; r = if store i || cas i then storeR else loadR }
+dataRequestOf c i w = record { asid = asid c; va = ea i c w; r = if store i || cas i then storeR else loadR }
 
 -- no cas, byte or half at a port
 abbrev pub avoidsPorts : Instruction → Bool
@@ -191,52 +204,52 @@ abbrev pub hasHazard : List Store → Instruction → ℕ → Bool
 hasHazard sb i a = load i && sbhazard sb a (d i)
 
 -- without a fault, at the physical address a
-unfoldable pub onAddress : View → List ℕ → Instruction → ℕ → ℕ → Judged Plan
-onAddress v m i w a =
+unfoldable pub onAddress : View → IoPorts → List ℕ → Instruction → ℕ → ℕ → Judged Plan
+onAddress v io m i w a =
     let ca : ℕ = causes v i w false in
-    ask (test (not (avoidsPorts i && isPort a)) ∷ test (not (hasHazard (v .sb) i a)) ∷ []) (yield (unlessSuppressed v w ca (performed v m i w ca a)))
+    ask (test (not (avoidsPorts i && isPort a)) ∷ test (not (hasHazard (v .sb) i a)) ∷ []) (yield (unlessSuppressed v w ca (performed v io m i w ca a)))
 
-unfoldable pub onData : View → List ℕ → Walk → Instruction → ℕ → Faulting → Judged Plan
-onData v m wR i w Passes = ask (completeGuard v wR ∷ []) (onAddress v m i w (physical v wR (ea i (v .core) w)))
-onData v m wR i w Faults = yield (stopped v w (causes v i w true) (faulted (v .core) (ea i (v .core) w)))
-onData v m wR i w Undecided = ask (undecided ∷ []) (yield (refused 7))
+unfoldable pub onData : View → IoPorts → List ℕ → Walk → Instruction → ℕ → Faulting → Judged Plan
+onData v io m wR i w Passes = ask (completeGuard v wR ∷ []) (onAddress v io m i w (physical v wR (ea i (v .core) w)))
+onData v io m wR i w Faults = yield (stopped v w (causes v i w true) (faulted (v .core) (ea i (v .core) w)))
+onData v io m wR i w Undecided = ask (undecided ∷ []) (yield (refused 7))
 
 -- a load, store or cas by the data walk
-unfoldable pub onAccess : View → List ℕ → Walk → Instruction → ℕ → Judged Plan
-onAccess v m wR i w = ask (walkGuard v (dataRequestOf (v .core) i w) wR ∷ []) (onData v m wR i w (faultOf v m (dataRequestOf (v .core) i w) wR))
+unfoldable pub onAccess : View → IoPorts → List ℕ → Walk → Instruction → ℕ → Judged Plan
+onAccess v io m wR i w = ask (walkGuard v (dataRequestOf (v .core) i w) wR ∷ []) (onData v io m wR i w (faultOf v m (dataRequestOf (v .core) i w) wR))
 
-unfoldable pub onInstruction : View → List ℕ → Walk → Instruction → ℕ → Judged Plan
-onInstruction v m wR i w =
-    ask (test (findsBuffer (v .sb) i) ∷ []) (if isAccess i then onAccess v m wR i w else yield (withoutAccess v i w))
+unfoldable pub onInstruction : View → IoPorts → List ℕ → Walk → Instruction → ℕ → Judged Plan
+onInstruction v io m wR i w =
+    ask (test (findsBuffer (v .sb) i) ∷ []) (if isAccess i then onAccess v io m wR i w else yield (withoutAccess v i w))
 
 -- ---- the fetch
 
 abbrev pub fetchRequestOf : Registers → Request
-fetchRequestOf c = record { asid = asidOf c; va = c .pc; r = fetchR }
+fetchRequestOf c = record { asid = asid c; va = c .pc; r = fetchR }
 
-unfoldable pub onWord : View → List ℕ → Walk → Read → Judged Plan
-onWord v m wR (There w) = onInstruction v m wR (decoded w) w
-onWord v m wR Nowhere = ask (undecided ∷ []) (yield (refused 7))
+unfoldable pub onWord : View → IoPorts → List ℕ → Walk → Read → Judged Plan
+onWord v io m wR (There w) = onInstruction v io m wR (decoded w) w
+onWord v io m wR Nowhere = ask (undecided ∷ []) (yield (refused 7))
 
 -- instructions are read from memory alone, and never at a port
-unfoldable pub onFetchAddress : View → List ℕ → Walk → ℕ → Judged Plan
-onFetchAddress v m wR a = ask (test (not (isPort a)) ∷ []) (onWord v m wR (reads 4 (memoryByte m) a))
+unfoldable pub onFetchAddress : View → IoPorts → List ℕ → Walk → ℕ → Judged Plan
+onFetchAddress v io m wR a = ask (test (not (isPort a)) ∷ []) (onWord v io m wR (reads 4 (memoryByte m) a))
 
-unfoldable pub onFetch : View → List ℕ → Walk → Walk → Faulting → Judged Plan
-onFetch v m wI wR Passes = ask (completeGuard v wI ∷ []) (onFetchAddress v m wR (physical v wI (v .core .pc)))
-onFetch v m wI wR Faults = yield (stopped v 0 (causesWithout v false true) (faulted (v .core) (v .core .pc)))
-onFetch v m wI wR Undecided = ask (undecided ∷ []) (yield (refused 7))
+unfoldable pub onFetch : View → IoPorts → List ℕ → Walk → Walk → Faulting → Judged Plan
+onFetch v io m wI wR Passes = ask (completeGuard v wI ∷ []) (onFetchAddress v io m wR (physical v wI (v .core .pc)))
+onFetch v io m wI wR Faults = yield (stopped v 0 (causesWithout v false true) (faulted (v .core) (v .core .pc)))
+onFetch v io m wI wR Undecided = ask (undecided ∷ []) (yield (refused 7))
 
 -- a fetch by the fetch walk
-unfoldable pub fetch : View → List ℕ → Walk → Walk → Judged Plan
-fetch v m wI wR = ask (walkGuard v (fetchRequestOf (v .core)) wI ∷ []) (onFetch v m wI wR (faultOf v m (fetchRequestOf (v .core)) wI))
+unfoldable pub fetch : View → IoPorts → List ℕ → Walk → Walk → Judged Plan
+fetch v io m wI wR = ask (walkGuard v (fetchRequestOf (v .core)) wI ∷ []) (onFetch v io m wI wR (faultOf v m (fetchRequestOf (v .core)) wI))
 
 -- a pc that is not divisible by four gives no fetch
-unfoldable pub judged : View → List ℕ → Walk → Walk → Judged Plan
-judged v m wI wR =
+unfoldable pub judged : View → IoPorts → List ℕ → Walk → Walk → Judged Plan
+judged v io m wI wR =
     ask (test (v .running) ∷ [])
-    (if eqb (v .core .pc % 4) 0 then fetch v m wI wR
+    (if eqb (v .core .pc % 4) 0 then fetch v io m wI wR
     else yield (stopped v 0 (causesWithout v true false) WalkChange.Nothing))
 
-unfoldable pub corePlan : View → List ℕ → Walk → Walk → Plan
-corePlan v m wI wR = settle refused (judged v m wI wR)
+unfoldable pub corePlan : View → IoPorts → List ℕ → Walk → Walk → Plan
+corePlan v io m wI wR = settle refused (judged v io m wI wR)

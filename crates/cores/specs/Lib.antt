@@ -1,6 +1,6 @@
 pub mod Guards
 pub mod Plans
 pub mod Core
-pub mod Walks
-pub mod Buffer
+pub mod TlbSteps
+pub mod BufferStep
 pub mod Commit

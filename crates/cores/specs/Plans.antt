@@ -5,7 +5,6 @@ use Rattle.word.specs.Word.{if_then_else_}
 use Rattle.decode.specs.declared.Instruction.{Instruction}
 use Rattle.decode.specs.Mnemonics.{eret}
 use Rattle.isa.specs.Interrupts.{jisr, il}
-use Rattle.steps.specs.declared.Answer.{Answer}
 use Rattle.steps.specs.declared.Answer.the-variants.{Done, Interrupt, Refused}
 use Rattle.cores.specs.declared.CoreChange.{CoreChange}
 use Rattle.cores.specs.declared.CoreChange.the-variants.{Return, Execute}
@@ -24,7 +23,7 @@ done b ws m = record { answer = Done; core = CoreChange.Nothing; buffer = b; wal
 
 -- an interrupt at the word w, which has read R, by the masked causes; the lowest external event is k
 abbrev pub interrupted : ℕ → ℕ → ℕ → ℕ → BufferChange → WalkChange → Write → Plan
-interrupted w R ca k b ws m = record { answer = Interrupt (il ca); core = CoreChange.Interrupt w R ca k; buffer = b; walks = ws; write = m }
+interrupted w R ca k b ws m = record { answer = Interrupt (il ca); core = CoreChange.Interrupt (record { word = w; read = R; causes = ca; vector = k }); buffer = b; walks = ws; write = m }
 
 abbrev pub changed : Instruction → ℕ → ℕ → CoreChange
 changed i w R = if eret i then Return else Execute i w R

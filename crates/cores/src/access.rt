@@ -1,9 +1,10 @@
 // An instruction that was fetched: data access, causes and effect (11.3).
 use super::BufferChange;
+use super::Fetched;
+use super::IoPorts;
 use super::Plan;
 use super::WalkChange;
 use super::Write;
-use super::block;
 use super::causes;
 use super::finish;
 use super::refused;
@@ -17,6 +18,7 @@ use records::Store;
 use records::Walk;
 use store_buffer::Loaded;
 use store_buffer::Read;
+use tables::block;
 use tlb::Faulting;
 use tlb::Request;
 ghost use mathlib.Core.Path.{_≡_};
@@ -27,37 +29,26 @@ ghost use lib.Dec.{ltb};
 ghost use Rattle.isa.specs.Core.{d, mal, ea};
 ghost use Rattle.isa.specs.Interrupts.{user};
 ghost use Rattle.records.specs.Records.{linked, stores};
-ghost use Rattle.records.specs.Contents.{soundRecords, allThere};
-ghost use Rattle.store_buffer.specs.System.{aligned, sized, loaded, portsOf, reads, memoryByte};
+ghost use Rattle.records.specs.Contents.{allThere};
+ghost use Rattle.store_buffer.specs.System.{aligned, sized, loaded, reads, memoryByte};
 ghost use Rattle.tables.specs.Views.{registersOf};
 ghost use Rattle.tlb.specs.declared.Faulting.the-variants as verdict;
 ghost use Rattle.cores.specs.Guards.{settle};
 ghost use Rattle.cores.specs.Plans as p;
 ghost use Rattle.cores.specs.Core as x;
 
-fn load(
-    b: &[u32],
-    select: u32,
-    window: u32,
-    m: &[u8],
-    i: Instruction,
-    w: u32,
-    causes: u32,
-    a: u32,
-) -> Plan
-    requires { ⌜ length (now b) ≡ 256 ⌝ }
-    requires { ⌜ soundRecords (length (now m)) (now b) ≡ true ⌝ }
-    requires { ⌜ aligned a (d i) ≡ true ⌝ }
-    ensures { λ r. ⌜ r ≡ x.onLoad (x.viewOf (now (b .entry)) select window) i w causes (loaded (stores (now (b .entry))) (portsOf (now (b .entry)) select window) (now (m .entry)) a (d i)) ⌝ }
+fn load(b: &[u32], io: IoPorts, m: &[u8], f: Fetched, a: u32) -> Plan
+    requires { ⌜ x.SoundBeside (now b) (now m) ⌝ }
+    requires { ⌜ aligned a (d (f .instruction)) ≡ true ⌝ }
+    ensures { λ r. ⌜ r ≡ x.onLoad (x.viewOf (now (b .entry))) (f .instruction) (f .word) (f .causes) (loaded (stores (now (b .entry))) (x.portsBeside (x.viewOf (now (b .entry))) io) (now (m .entry)) a (d (f .instruction))) ⌝ }
 {
-    let l = store_buffer::load(b, select, window, m, a, interrupts::width(i));
+    let i = f.instruction;
+    let l = store_buffer::load(b, io.select, io.window, m, a, interrupts::width(i));
     match l {
         Loaded::Value(v, _) => finish::finished(
             b,
-            i,
-            w,
+            f,
             v,
-            causes,
             BufferChange::Nothing,
             WalkChange::Nothing,
             Write::Nothing,
@@ -90,13 +81,14 @@ fn low(v: u32, width: u32) -> u32
     v
 }
 
-fn stored(b: &[u32], i: Instruction, w: u32, a: u32) -> Store
+fn stored(b: &[u32], f: Fetched, a: u32) -> Store
     requires { ⌜ length (now b) ≡ 256 ⌝ }
-    requires { ⌜ sized (d i) ≡ true ⌝ }
-    ensures { λ r. ⌜ r ≡ x.storedFrom (registersOf (now (b .entry))) i w a ⌝ }
+    requires { ⌜ sized (d (f .instruction)) ≡ true ⌝ }
+    ensures { λ r. ⌜ r ≡ x.storedFrom (registersOf (now (b .entry))) (f .instruction) (f .word) a ⌝ }
 {
+    let i = f.instruction;
     let width = interrupts::width(i);
-    let value = low(block::general(b, fields::rt(w)), width);
+    let value = low(block::general(b, fields::rt(f.word)), width);
     Store {
         address: a,
         value,
@@ -104,22 +96,12 @@ fn stored(b: &[u32], i: Instruction, w: u32, a: u32) -> Store
     }
 }
 
-fn store(
-    b: &[u32],
-    select: u32,
-    window: u32,
-    m: &[u8],
-    i: Instruction,
-    w: u32,
-    causes: u32,
-    a: u32,
-) -> Plan
-    requires { ⌜ length (now b) ≡ 256 ⌝ }
-    requires { ⌜ linked (now b) ≡ true ⌝ }
-    requires { ⌜ length (now m) % 4 ≡ 0 ⌝ }
-    requires { ⌜ aligned a (d i) ≡ true ⌝ }
-    ensures { λ r. ⌜ r ≡ x.onStore (x.viewOf (now (b .entry)) select window) i w causes (x.storedFrom (registersOf (now (b .entry))) i w a) (allThere (d i) (length (now (m .entry))) a) ⌝ }
+fn store(b: &[u32], m: &[u8], f: Fetched, a: u32) -> Plan
+    requires { ⌜ x.SoundBeside (now b) (now m) ⌝ }
+    requires { ⌜ aligned a (d (f .instruction)) ≡ true ⌝ }
+    ensures { λ r. ⌜ r ≡ x.onStore (x.viewOf (now (b .entry))) (f .instruction) (f .word) (f .causes) (x.storedFrom (registersOf (now (b .entry))) (f .instruction) (f .word) a) (allThere (d (f .instruction)) (length (now (m .entry))) a) ⌝ }
 {
+    let i = f.instruction;
     if !is_there(a, interrupts::width(i), m.len()) {
         return refused(7);
     }
@@ -129,13 +111,11 @@ fn store(
     if b[layout::FREE_HEAD] == 0 {
         return refused(10);
     }
-    let s = stored(b, i, w, a);
+    let s = stored(b, f, a);
     finish::finished(
         b,
-        i,
-        w,
+        f,
         0,
-        causes,
         BufferChange::Put(s),
         WalkChange::Nothing,
         Write::Nothing,
@@ -153,64 +133,36 @@ fn exchanged(b: &[u32], w: u32, read: u32, a: u32) -> Write
     Write::Nothing
 }
 
-fn cas(
-    b: &[u32],
-    select: u32,
-    window: u32,
-    m: &[u8],
-    i: Instruction,
-    w: u32,
-    causes: u32,
-    a: u32,
-) -> Plan
+fn cas(b: &[u32], m: &[u8], f: Fetched, a: u32) -> Plan
     requires { ⌜ length (now b) ≡ 256 ⌝ }
     requires { ⌜ aligned a 4 ≡ true ⌝ }
-    ensures { λ r. ⌜ r ≡ x.onCas (x.viewOf (now (b .entry)) select window) i w causes a (reads 4 (memoryByte (now (m .entry))) a) ⌝ }
+    ensures { λ r. ⌜ r ≡ x.onCas (x.viewOf (now (b .entry))) (f .instruction) (f .word) (f .causes) a (reads 4 (memoryByte (now (m .entry))) a) ⌝ }
 {
     let r = store_buffer::read_memory(m, a, 4);
     match r {
         Read::There(v) => {
-            let write = exchanged(b, w, v, a);
-            finish::finished(
-                b,
-                i,
-                w,
-                v,
-                causes,
-                BufferChange::Nothing,
-                WalkChange::Nothing,
-                write,
-            )
+            let write = exchanged(b, f.word, v, a);
+            finish::finished(b, f, v, BufferChange::Nothing, WalkChange::Nothing, write)
         }
         Read::Nowhere => refused(7),
     }
 }
 
 // A load, store or cas at a physical address.
-fn performed(
-    b: &[u32],
-    select: u32,
-    window: u32,
-    m: &[u8],
-    i: Instruction,
-    w: u32,
-    causes: u32,
-    a: u32,
-) -> Plan
-    requires { ⌜ length (now b) ≡ 256 ⌝ }
-    requires { ⌜ soundRecords (length (now m)) (now b) ≡ true ⌝ }
-    requires { ⌜ length (now m) % 4 ≡ 0 ⌝ }
-    requires { ⌜ x.isAccess i ≡ true ⌝ }
-    requires { ⌜ aligned a (d i) ≡ true ⌝ }
-    ensures { λ r. ⌜ r ≡ x.performed (x.viewOf (now (b .entry)) select window) (now (m .entry)) i w causes a ⌝ }
+fn performed(b: &[u32], io: IoPorts, m: &[u8], f: Fetched, a: u32) -> Plan
+    requires { ⌜ x.SoundBeside (now b) (now m) ⌝ }
+    requires { ⌜ x.isAccess (f .instruction) ≡ true ⌝ }
+    requires { ⌜ aligned a (d (f .instruction)) ≡ true ⌝ }
+    ensures { λ r. ⌜ r ≡ x.performed (x.viewOf (now (b .entry))) io (now (m .entry)) (f .instruction) (f .word) (f .causes) a ⌝ }
 {
+    let i = f.instruction;
     if classes::is_load(i) {
-        return load(b, select, window, m, i, w, causes, a);
+        return load(b, io, m, f, a);
     }
     if classes::is_store(i) {
-        return store(b, select, window, m, i, w, causes, a);
+        return store(b, m, f, a);
     }
-    cas(b, select, window, m, i, w, causes, a)
+    cas(b, m, f, a)
 }
 
 // Whether an instruction may access no port.
@@ -233,61 +185,41 @@ fn has_hazard(b: &[u32], i: Instruction, a: u32) -> bool
 }
 
 // A load, store or cas that does not fault, at its physical address.
-fn at_address(
-    b: &[u32],
-    select: u32,
-    window: u32,
-    m: &[u8],
-    i: Instruction,
-    w: u32,
-    a: u32,
-    ca: u32,
-) -> Plan
-    requires { ⌜ length (now b) ≡ 256 ⌝ }
-    requires { ⌜ soundRecords (length (now m)) (now b) ≡ true ⌝ }
-    requires { ⌜ length (now m) % 4 ≡ 0 ⌝ }
-    requires { ⌜ x.isAccess i ≡ true ⌝ }
-    requires { ⌜ a % 4 ≡ ea i (registersOf (now b)) w % 4 ⌝ }
-    requires { ⌜ ca ≡ x.causes (x.viewOf (now b) select window) i w false ⌝ }
-    ensures { λ r. ⌜ r ≡ settle p.refused (x.onAddress (x.viewOf (now (b .entry)) select window) (now (m .entry)) i w a) ⌝ }
+fn at_address(b: &[u32], io: IoPorts, m: &[u8], f: Fetched, a: u32) -> Plan
+    requires { ⌜ x.SoundBeside (now b) (now m) ⌝ }
+    requires { ⌜ x.isAccess (f .instruction) ≡ true ⌝ }
+    requires { ⌜ a % 4 ≡ ea (f .instruction) (registersOf (now b)) (f .word) % 4 ⌝ }
+    requires { ⌜ f .causes ≡ x.causes (x.viewOf (now b)) (f .instruction) (f .word) false ⌝ }
+    ensures { λ r. ⌜ r ≡ settle p.refused (x.onAddress (x.viewOf (now (b .entry))) io (now (m .entry)) (f .instruction) (f .word) a) ⌝ }
 {
+    let i = f.instruction;
     if avoids_ports(i) & store_buffer::is_port(a) {
         return refused(6);
     }
-    if causes::suppress(ca) {
+    if causes::suppress(f.causes) {
         if has_hazard(b, i, a) {
             return refused(6);
         }
-        return finish::stopped(b, w, ca, WalkChange::Nothing);
+        return finish::stopped(b, f.word, f.causes, WalkChange::Nothing);
     }
-    performed(b, select, window, m, i, w, ca, a)
+    performed(b, io, m, f, a)
 }
 
 // A load, store or cas that does not fault, by the walk that was used.
-fn passed(
-    b: &[u32],
-    select: u32,
-    window: u32,
-    m: &[u8],
-    walk: Walk,
-    i: Instruction,
-    w: u32,
-    ca: u32,
-) -> Plan
-    requires { ⌜ length (now b) ≡ 256 ⌝ }
-    requires { ⌜ soundRecords (length (now m)) (now b) ≡ true ⌝ }
-    requires { ⌜ length (now m) % 4 ≡ 0 ⌝ }
-    requires { ⌜ x.isAccess i ≡ true ⌝ }
+fn passed(b: &[u32], io: IoPorts, m: &[u8], walk: Walk, f: Fetched) -> Plan
+    requires { ⌜ x.SoundBeside (now b) (now m) ⌝ }
+    requires { ⌜ x.isAccess (f .instruction) ≡ true ⌝ }
     requires { ⌜ (not (user (registersOf (now b))) || ltb (walk .second) (2 ^ 20)) ≡ true ⌝ }
-    requires { ⌜ ca ≡ x.causes (x.viewOf (now b) select window) i w false ⌝ }
-    ensures { λ r. ⌜ r ≡ settle p.refused (x.onData (x.viewOf (now (b .entry)) select window) (now (m .entry)) walk i w verdict.Passes) ⌝ }
+    requires { ⌜ f .causes ≡ x.causes (x.viewOf (now b)) (f .instruction) (f .word) false ⌝ }
+    ensures { λ r. ⌜ r ≡ settle p.refused (x.onData (x.viewOf (now (b .entry))) io (now (m .entry)) walk (f .instruction) (f .word) verdict.Passes) ⌝ }
 {
     let user = block::user(b);
     if !translation::ends(user, walk) {
         return refused(6);
     }
-    let a = translation::physical(user, walk, causes::address(b, i, w));
-    at_address(b, select, window, m, i, w, a, ca)
+    let i = f.instruction;
+    let a = translation::physical(user, walk, causes::address(b, i, f.word));
+    at_address(b, io, m, f, a)
 }
 
 fn data_request(b: &[u32], i: Instruction, w: u32) -> Request
@@ -311,32 +243,27 @@ fn data_request(b: &[u32], i: Instruction, w: u32) -> Request
 }
 
 // A load, store or cas by the data walk. A page fault is one cause more.
-fn access(
-    b: &[u32],
-    select: u32,
-    window: u32,
-    m: &[u8],
-    walk: Walk,
-    i: Instruction,
-    w: u32,
-    ca: u32,
-) -> Plan
-    requires { ⌜ length (now b) ≡ 256 ⌝ }
-    requires { ⌜ soundRecords (length (now m)) (now b) ≡ true ⌝ }
-    requires { ⌜ length (now m) % 4 ≡ 0 ⌝ }
-    requires { ⌜ x.isAccess i ≡ true ⌝ }
-    requires { ⌜ ca ≡ x.causes (x.viewOf (now b) select window) i w false ⌝ }
-    ensures { λ r. ⌜ r ≡ settle p.refused (x.onAccess (x.viewOf (now (b .entry)) select window) (now (m .entry)) walk i w) ⌝ }
+fn access(b: &[u32], io: IoPorts, m: &[u8], walk: Walk, f: Fetched) -> Plan
+    requires { ⌜ x.SoundBeside (now b) (now m) ⌝ }
+    requires { ⌜ x.isAccess (f .instruction) ≡ true ⌝ }
+    requires { ⌜ f .causes ≡ x.causes (x.viewOf (now b)) (f .instruction) (f .word) false ⌝ }
+    ensures { λ r. ⌜ r ≡ settle p.refused (x.onAccess (x.viewOf (now (b .entry))) io (now (m .entry)) walk (f .instruction) (f .word)) ⌝ }
 {
     let user = block::user(b);
-    let t = data_request(b, i, w);
+    let i = f.instruction;
+    let t = data_request(b, i, f.word);
     if !translation::fits(b, user, t, walk) {
         return refused(6);
     }
-    let f = translation::fault(m, user, t, walk);
-    match f {
-        Faulting::Passes => passed(b, select, window, m, walk, i, w, ca),
-        Faulting::Faults => finish::stopped(b, w, ca + 32, translation::faulted(b, t.va)),
+    let v = translation::fault(m, user, t, walk);
+    match v {
+        Faulting::Passes => passed(b, io, m, walk, f),
+        Faulting::Faults => finish::stopped(
+            b,
+            f.word,
+            f.causes + 32,
+            translation::faulted(b, t.va),
+        ),
         Faulting::Undecided => refused(7),
     }
 }
@@ -358,25 +285,18 @@ fn dropped(b: &[u32], i: Instruction, w: u32) -> WalkChange
 }
 
 // An instruction that accesses no memory.
-fn plain(b: &[u32], select: u32, window: u32, i: Instruction, w: u32, masked: u32) -> Plan
+fn plain(b: &[u32], f: Fetched) -> Plan
     requires { ⌜ length (now b) ≡ 256 ⌝ }
-    requires { ⌜ masked ≡ x.causes (x.viewOf (now b) select window) i w false ⌝ }
-    ensures { λ r. ⌜ r ≡ x.withoutAccess (x.viewOf (now (b .entry)) select window) i w ⌝ }
+    requires { ⌜ f .causes ≡ x.causes (x.viewOf (now b)) (f .instruction) (f .word) false ⌝ }
+    ensures { λ r. ⌜ r ≡ x.withoutAccess (x.viewOf (now (b .entry))) (f .instruction) (f .word) ⌝ }
 {
+    let i = f.instruction;
+    let w = f.word;
     let walks = dropped(b, i, w);
-    if causes::suppress(masked) {
-        return finish::stopped(b, w, masked, WalkChange::Nothing);
+    if causes::suppress(f.causes) {
+        return finish::stopped(b, w, f.causes, WalkChange::Nothing);
     }
-    finish::finished(
-        b,
-        i,
-        w,
-        0,
-        masked,
-        BufferChange::Nothing,
-        walks,
-        Write::Nothing,
-    )
+    finish::finished(b, f, 0, BufferChange::Nothing, walks, Write::Nothing)
 }
 
 // Whether an instruction finds the buffer as it asks.
@@ -397,27 +317,22 @@ fn is_access(i: Instruction) -> bool
     classes::is_load(i) | (classes::is_store(i) | classes::is_cas(i))
 }
 
-// An instruction that was fetched, with its masked causes.
-pub fn instruction(
-    b: &[u32],
-    select: u32,
-    window: u32,
-    m: &[u8],
-    walk: Walk,
-    i: Instruction,
-    w: u32,
-) -> Plan
-    requires { ⌜ length (now b) ≡ 256 ⌝ }
-    requires { ⌜ soundRecords (length (now m)) (now b) ≡ true ⌝ }
-    requires { ⌜ length (now m) % 4 ≡ 0 ⌝ }
-    ensures { λ r. ⌜ r ≡ settle p.refused (x.onInstruction (x.viewOf (now (b .entry)) select window) (now (m .entry)) walk i w) ⌝ }
+// An instruction that was fetched.
+pub fn instruction(b: &[u32], io: IoPorts, m: &[u8], walk: Walk, i: Instruction, w: u32) -> Plan
+    requires { ⌜ x.SoundBeside (now b) (now m) ⌝ }
+    ensures { λ r. ⌜ r ≡ settle p.refused (x.onInstruction (x.viewOf (now (b .entry))) io (now (m .entry)) walk i w) ⌝ }
 {
     if !finds_buffer(b, i) {
         return refused(6);
     }
-    let ca = causes::of(b, i, w);
+    let causes = causes::of(b, i, w);
+    let f = Fetched {
+        instruction: i,
+        word: w,
+        causes,
+    };
     if is_access(i) {
-        return access(b, select, window, m, walk, i, w, ca);
+        return access(b, io, m, walk, f);
     }
-    plain(b, select, window, i, w, ca)
+    plain(b, f)
 }

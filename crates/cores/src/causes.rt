@@ -1,11 +1,11 @@
 // The masked causes of a core's step (6.3).
-use super::block;
 use super::finish;
 use apic::local;
 use decode::Instruction;
 use decode::fields;
 use isa::interrupts;
 use isa::interrupts::Events;
+use tables::block;
 ghost use mathlib.Core.Path.{_≡_};
 ghost use mathlib.Core.Bool.{false, _&&_};
 ghost use lib.ListN.{length};

@@ -14,16 +14,15 @@ ghost use Prim.Native.Nat.{_+_, _*_, _≤_};
 ghost use lib.ListN.{length};
 ghost use Rattle.records.specs.Records.{linked};
 ghost use Rattle.layout.specs.Blocks.{block};
-ghost use Rattle.isa.specs.Core.{effect};
-ghost use Rattle.isa.specs.Interrupts.{deltaJisr, deltaRfe};
-ghost use Rattle.apic.specs.LocalApic.{onJisr, onRfe};
+ghost use Rattle.isa.specs.Interrupts.{deltaJisr};
+ghost use Rattle.apic.specs.LocalApic.{onJisr};
 ghost use Rattle.tables.specs.Views.{registersOf, withRegisters};
 ghost use Rattle.cores.specs.Commit as x;
 
 // The registers are taken out of the block, and what an instruction, an interrupt or a return makes of them is put back.
 fn execute(b: &mut [u32], i: Instruction, w: u32, read: u32)
     requires { ⌜ length (now b) ≡ 256 ⌝ }
-    ensures { λ _. ⌜ now (b .exit) ≡ withRegisters (now (b .entry)) (effect i (registersOf (now (b .entry))) w read) ⌝ }
+    ensures { λ _. ⌜ now (b .exit) ≡ x.coreAfter (CoreChange.Execute i w read) (now (b .entry)) ⌝ }
 {
     let c = registers::registers(b);
     registers::put_registers(b, c.execute(i, w, read));
@@ -40,7 +39,7 @@ fn interrupt(b: &mut [u32], w: u32, read: u32, causes: u32, vector: u32)
 
 fn return_from(b: &mut [u32])
     requires { ⌜ length (now b) ≡ 256 ⌝ }
-    ensures { λ _. ⌜ now (b .exit) ≡ onRfe (withRegisters (now (b .entry)) (deltaRfe (registersOf (now (b .entry))))) ⌝ }
+    ensures { λ _. ⌜ now (b .exit) ≡ x.coreAfter CoreChange.Return (now (b .entry)) ⌝ }
 {
     let c = registers::registers(b);
     registers::put_registers(b, c.eret());
@@ -53,8 +52,8 @@ fn core(b: &mut [u32], change: CoreChange)
 {
     match change {
         CoreChange::Nothing => {}
-        CoreChange::Interrupt(w, read, causes, vector) => {
-            interrupt(b, w, read, causes, vector);
+        CoreChange::Interrupt(i) => {
+            interrupt(b, i.word, i.read, i.causes, i.vector);
         }
         CoreChange::Return => {
             return_from(b);

@@ -1,6 +1,8 @@
 // How a core's step ends: an interrupt, a return or an instruction (definition 22).
 use super::BufferChange;
 use super::CoreChange;
+use super::Fetched;
+use super::Interruption;
 use super::Plan;
 use super::WalkChange;
 use super::Write;
@@ -46,7 +48,12 @@ fn interrupted(
     ensures { λ r. ⌜ r ≡ p.interrupted w read causes (x.vectorOf (event (now (b .entry)))) buffer walks write ⌝ }
 {
     let answer = Answer::Interrupt(interrupts::level(causes));
-    let core = CoreChange::Interrupt(w, read, causes, vector(local::event(b)));
+    let core = CoreChange::Interrupt(Interruption {
+        word: w,
+        read,
+        causes,
+        vector: vector(local::event(b)),
+    });
     Plan {
         answer,
         core,
@@ -85,21 +92,20 @@ fn change(i: Instruction, w: u32, read: u32) -> CoreChange
 // The end of an instruction that is not suppressed, with what else it does.
 pub fn finished(
     b: &[u32],
-    i: Instruction,
-    w: u32,
+    f: Fetched,
     read: u32,
-    causes: u32,
     buffer: BufferChange,
     walks: WalkChange,
     write: Write,
 ) -> Plan
     requires { ⌜ length (now b) ≡ 256 ⌝ }
-    ensures { λ r. ⌜ r ≡ p.finished i w read causes (x.vectorOf (event (now (b .entry)))) buffer walks write ⌝ }
+    ensures { λ r. ⌜ r ≡ p.finished (f .instruction) (f .word) read (f .causes) (x.vectorOf (event (now (b .entry)))) buffer walks write ⌝ }
 {
-    if causes != 0 {
-        return interrupted(b, w, read, causes, buffer, walks, write);
+    if f.causes != 0 {
+        return interrupted(b, f.word, read, f.causes, buffer, walks, write);
     }
-    let core = change(i, w, read);
+    let i = f.instruction;
+    let core = change(i, f.word, read);
     Plan {
         answer: Answer::Done,
         core,

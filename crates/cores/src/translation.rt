@@ -1,8 +1,8 @@
 // A core's address through the walk that the step names (5, 11.3).
 use super::WalkChange;
-use super::block;
 use records::Flush;
 use records::Walk;
+use tables::block;
 use tlb::Faulting;
 use tlb::Request;
 ghost use mathlib.Core.Path.{_≡_};

@@ -13,7 +13,7 @@ use Rattle.word.proofs.Words.{Words}
 use Rattle.word.proofs.Truth.{and-left, and-right, and-both}
 use Rattle.layout.specs.Layout.{spr, pto}
 use Rattle.layout.specs.Blocks.{block}
-use Rattle.tables.specs.Views.{coresOf, ioregselOf, iowinOf}
+use Rattle.tables.specs.Views.{coresOf}
 use Rattle.tables.specs.Sound.{sound}
 use Rattle.tables.proofs.Lift.{core-sound}
 use Rattle.apic.specs.declared.vectors.Found.{Found}
@@ -25,6 +25,7 @@ use Rattle.ioapic.specs.IoApic.{maySample, mayDeliver}
 use Rattle.steps.specs.declared.Step.{Step}
 use Rattle.steps.specs.declared.Step.the-variants as kind
 use Rattle.steps.specs.Form.{stepOf}
+use Rattle.cores.specs.Core.{ioPortsOf}
 use Rattle.cores.specs.Commit.{ready}
 use Rattle.cores.proofs.Decisions.{MayBeDone, create-plan, extend-plan, accessed-plan, drain-plan}
 use Rattle.cores.proofs.Executions.{core-plan}
@@ -109,7 +110,7 @@ module _ (t m : List ℕ) where
   module _ (e : sound t (length m) ≡ true) (ws : Words t) (bs : Bytes m) where
     step-able : (x : Step) → formed (coresOf t) x ≡ true → Able (byStep t m x)
     unfolding byStep
-    step-able (kind.Core k wI wR) f = (ltb-true k (coresOf t) f, core-plan (block t k) m (ioregselOf t) (iowinOf t) wI wR (quarters t (length m) e))
+    step-able (kind.Core k wI wR) f = (ltb-true k (coresOf t) f, core-plan (block t k) (ioPortsOf t) m wI wR (quarters t (length m) e))
     step-able (kind.TlbCreate k va) f =
         let l : va < 2 ^ 20 = ltb-true va (2 ^ 20) (and-right (ltb k (coresOf t)) _ f) in
         (ltb-true k (coresOf t) (and-left (ltb k (coresOf t)) _ f), create-plan (block t k) m va l (block-words t k ws (spr + pto)))

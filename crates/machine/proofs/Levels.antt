@@ -27,7 +27,8 @@ use Rattle.tlb.specs.declared.Faulting.the-variants.{Faults, Passes, Undecided}
 use Rattle.tlb.specs.declared.Decision.{Decision}
 use Rattle.tlb.specs.declared.Decision.the-variants as tlb
 use Rattle.tlb.specs.Walks.{pteA, pteP, ptea, pte, winit, wext, wextFault, set-d}
-use Rattle.tlb.specs.Steps.{userMode, runs, asidOf, originOf, extendable, tlbCreate, tlbExtend, tlbAccessed, onExtend, onAccessed, createOn, extendOn, accessedOn}
+use Rattle.tables.specs.Views.{userMode, runs, asidOf}
+use Rattle.tlb.specs.Steps.{originOf, extendable, tlbCreate, tlbExtend, tlbAccessed, onExtend, onAccessed, createOn, extendOn, accessedOn}
 use Rattle.store_buffer.specs.declared.Read.{Read}
 use Rattle.store_buffer.specs.declared.Read.the-variants.{There, Nowhere}
 use Rattle.store_buffer.specs.declared.Loaded.{Loaded}
@@ -41,6 +42,7 @@ use Rattle.store_buffer.specs.System.{memoryByte, reads, loaded}
 use Rattle.ioapic.specs.IoApic.{writes}
 use Rattle.steps.specs.declared.Answer.{Answer}
 use Rattle.steps.specs.declared.Answer.the-variants.{Done, Interrupt, Refused}
+use Rattle.cores.specs.declared.IoPorts.{IoPorts}
 use Rattle.cores.specs.declared.BufferChange.{BufferChange}
 use Rattle.cores.specs.declared.BufferChange.the-variants.{Put, Take}
 use Rattle.cores.specs.declared.WalkChange.{WalkChange}
@@ -50,9 +52,9 @@ use Rattle.cores.specs.declared.Write.the-variants.{IoPort}
 use Rattle.cores.specs.declared.Plan.{Plan}
 use Rattle.cores.specs.Plans.{refused, done, interrupted, finished}
 use Rattle.cores.specs.Guards.{Judged, yield, anyOf, isFailure, isUndecided, settle}
-use Rattle.cores.specs.Walks.{adding, planned}
-use Rattle.cores.specs.Buffer.{leavesTo, onOldest, bufferStep}
-use Rattle.cores.specs.Core.{View, isEvent, vectorOf, physical, faultOf, dataRequestOf, fetchRequestOf, causes, causesWithout, stopped, storedFrom, plain, onLoad, onStore, onCas, performed, unlessSuppressed, withoutAccess, isAccess, onAddress, onData, onAccess, onInstruction, onWord, onFetchAddress, onFetch, fetch, judged, corePlan}
+use Rattle.cores.specs.TlbSteps.{adding, planned}
+use Rattle.cores.specs.BufferStep.{leavesTo, onOldest, bufferStep}
+use Rattle.cores.specs.Core.{View, portsBeside, isEvent, vectorOf, physical, faultOf, dataRequestOf, fetchRequestOf, causes, causesWithout, stopped, storedFrom, plain, onLoad, onStore, onCas, performed, unlessSuppressed, withoutAccess, isAccess, onAddress, onData, onAccess, onInstruction, onWord, onFetchAddress, onFetch, fetch, judged, corePlan}
 
 -- 01's levels, and its refusals of a step on sound tables
 unfoldable pub known : Answer → Bool
@@ -121,7 +123,7 @@ module _ (v : View) where
       go false true e = h
       go false false e = interrupt-known ca (some-cause ca e) q
 
-  module _ (m : List ℕ) (i : Instruction) (w ca : ℕ) (q : ca < 2 ^ 8) where
+  module _ (io : IoPorts) (m : List ℕ) (i : Instruction) (w ca : ℕ) (q : ca < 2 ^ 8) where
     load-known : (l : Loaded) → known (onLoad v i w ca l .answer) ≡ true
     unfolding known
     load-known (Value x h) = finished-known i w x ca _ _ _ _ q
@@ -144,55 +146,55 @@ module _ (v : View) where
     cas-known a (There x) = finished-known i w x ca _ _ _ _ q
     cas-known a Nowhere = refl
 
-    performed-known : (a : ℕ) → known (performed v m i w ca a .answer) ≡ true
+    performed-known : (a : ℕ) → known (performed v io m i w ca a .answer) ≡ true
     unfolding performed
     performed-known a = go (load i) (store i)
       where
         go : (l s : Bool) →
-            known ((if l then onLoad v i w ca (loaded (v .sb) (v .ports) m a (d i)) else if s then onStore v i w ca (storedFrom (v .core) i w a) (allThere (d i) (length m) a) else onCas v i w ca a (reads 4 (memoryByte m) a)) .answer) ≡ true
-        go true s = load-known (loaded (v .sb) (v .ports) m a (d i))
+            known ((if l then onLoad v i w ca (loaded (v .sb) (portsBeside v io) m a (d i)) else if s then onStore v i w ca (storedFrom (v .core) i w a) (allThere (d i) (length m) a) else onCas v i w ca a (reads 4 (memoryByte m) a)) .answer) ≡ true
+        go true s = load-known (loaded (v .sb) (portsBeside v io) m a (d i))
         go false true = store-known (storedFrom (v .core) i w a) (allThere (d i) (length m) a)
         go false false = cas-known a (reads 4 (memoryByte m) a)
 
-  module _ (m : List ℕ) (wR : Walk) where
-    address-known : (i : Instruction) (w a : ℕ) → known (onAddress v m i w a .effect .answer) ≡ true
+  module _ (io : IoPorts) (m : List ℕ) (wR : Walk) where
+    address-known : (i : Instruction) (w a : ℕ) → known (onAddress v io m i w a .effect .answer) ≡ true
     unfolding onAddress
     address-known i w a =
         let q = causes-lt i w false in
-        unless-known w (causes v i w false) (performed v m i w (causes v i w false) a) q (performed-known m i w (causes v i w false) q a)
+        unless-known w (causes v i w false) (performed v io m i w (causes v i w false) a) q (performed-known io m i w (causes v i w false) q a)
 
-    data-known : (i : Instruction) (w : ℕ) (x : Faulting) → known (onData v m wR i w x .effect .answer) ≡ true
+    data-known : (i : Instruction) (w : ℕ) (x : Faulting) → known (onData v io m wR i w x .effect .answer) ≡ true
     unfolding onData known
     data-known i w Passes = address-known i w (physical v wR (ea i (v .core) w))
     data-known i w Faults = interrupt-known (causes v i w true) (omega arith) (causes-lt i w true)
     data-known i w Undecided = refl
 
-    instruction-known : (i : Instruction) (w : ℕ) → known (onInstruction v m wR i w .effect .answer) ≡ true
+    instruction-known : (i : Instruction) (w : ℕ) → known (onInstruction v io m wR i w .effect .answer) ≡ true
     unfolding onInstruction onAccess
     instruction-known i w = go (isAccess i)
       where
-        go : (t : Bool) → known ((if t then onAccess v m wR i w else yield (withoutAccess v i w)) .effect .answer) ≡ true
+        go : (t : Bool) → known ((if t then onAccess v io m wR i w else yield (withoutAccess v i w)) .effect .answer) ≡ true
         go true = data-known i w (faultOf v m (dataRequestOf (v .core) i w) wR)
         go false =
             let q = causes-lt i w false in
             unless-known w (causes v i w false) (plain v i w (causes v i w false)) q (finished-known i w 0 (causes v i w false) _ _ _ _ q)
 
-    word-known : (r : Read) → known (onWord v m wR r .effect .answer) ≡ true
+    word-known : (r : Read) → known (onWord v io m wR r .effect .answer) ≡ true
     unfolding onWord known
     word-known (There w) = instruction-known (decoded w) w
     word-known Nowhere = refl
 
-    fetch-known : (wI : Walk) (x : Faulting) → known (onFetch v m wI wR x .effect .answer) ≡ true
+    fetch-known : (wI : Walk) (x : Faulting) → known (onFetch v io m wI wR x .effect .answer) ≡ true
     unfolding onFetch onFetchAddress known
     fetch-known wI Passes = word-known (reads 4 (memoryByte m) (physical v wI (v .core .pc)))
     fetch-known wI Faults = interrupt-known (causesWithout v false true) (omega arith) (without-lt false true)
     fetch-known wI Undecided = refl
 
-    judged-known : (wI : Walk) → known (judged v m wI wR .effect .answer) ≡ true
+    judged-known : (wI : Walk) → known (judged v io m wI wR .effect .answer) ≡ true
     unfolding judged fetch
     judged-known wI = go (eqb (v .core .pc % 4) 0)
       where
-        go : (t : Bool) → known ((if t then fetch v m wI wR else yield (stopped v 0 (causesWithout v true false) WalkChange.Nothing)) .effect .answer) ≡ true
+        go : (t : Bool) → known ((if t then fetch v io m wI wR else yield (stopped v 0 (causesWithout v true false) WalkChange.Nothing)) .effect .answer) ≡ true
         go true = fetch-known wI (faultOf v m (fetchRequestOf (v .core)) wI)
         go false = interrupt-known (causesWithout v true false) (omega arith) (without-lt true false)
 
@@ -206,9 +208,9 @@ settle-known j h = go (anyOf isFailure (j .guards)) (anyOf isUndecided (j .guard
     go false true = refl
     go false false = h
 
-pub core-known : (v : View) (m : List ℕ) (wI wR : Walk) → known (corePlan v m wI wR .answer) ≡ true
+pub core-known : (v : View) (io : IoPorts) (m : List ℕ) (wI wR : Walk) → known (corePlan v io m wI wR .answer) ≡ true
 unfolding corePlan
-core-known v m wI wR = settle-known (judged v m wI wR) (judged-known v m wR wI)
+core-known v io m wI wR = settle-known (judged v io m wI wR) (judged-known v io m wR wI)
 
 -- ---- the TLB's own steps
 

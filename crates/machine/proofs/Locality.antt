@@ -21,7 +21,7 @@ use Rattle.layout.specs.Blocks.{block}
 use Rattle.layout.proofs.Blocks.{set-block}
 use Rattle.records.specs.declared.Walk.{Walk}
 use Rattle.records.specs.Records.{stores, walks}
-use Rattle.tables.specs.Views.{coresOf, ioregselOf, iowinOf, refusalsOf}
+use Rattle.tables.specs.Views.{coresOf, refusalsOf}
 use Rattle.tables.specs.Sound.{sound}
 use Rattle.tables.proofs.Lift.{core-fits, core-sound}
 use Rattle.steps.specs.declared.Answer.{Answer}
@@ -31,10 +31,11 @@ use Rattle.steps.specs.declared.Step.the-variants as kind
 use Rattle.steps.specs.Form.{stepOf, orNot, stepOfCore, stepOfLine, word, zero2, zero3, zero4, zero5, lineCount}
 use Rattle.tlb.specs.Steps.{createOn, extendOn, accessedOn}
 use Rattle.cores.specs.Core as core
-use Rattle.cores.specs.Walks.{planned}
-use Rattle.cores.specs.Buffer.{bufferStep}
+use Rattle.cores.specs.TlbSteps.{planned}
+use Rattle.cores.specs.BufferStep.{bufferStep}
 use Rattle.cores.specs.Plans.{refused}
 use Rattle.cores.specs.Commit as commit
+use Rattle.cores.specs.declared.IoPorts.{IoPorts}
 use Rattle.cores.specs.declared.Plan.{Plan}
 use Rattle.cores.proofs.Decisions.{MayBeDone, may-be-done, refused-doable, create-plan, extend-plan, accessed-plan, drain-plan}
 use Rattle.cores.proofs.Executions.{core-plan}
@@ -55,14 +56,14 @@ pub data Plain (k : ℕ) : Step → Type 0 where
   drain : Plain k (kind.StoreBuffer k)
   none : Plain k kind.NotAStep
 
--- its plan on the block b, beside IOREGSEL and IOWIN and the memory m
-abbrev pub planOf : {k : ℕ} {x : Step} → Plain k x → List ℕ → ℕ → ℕ → List ℕ → Plan
-planOf (runs v w) b select window m = core.corePlan (core.viewOf b select window) m v w
-planOf (create va h) b select window m = planned (walks b) (core.isFree b) (createOn b va)
-planOf (extend w) b select window m = planned (walks b) (core.isFree b) (extendOn b m w)
-planOf (accessed w) b select window m = planned (walks b) (core.isFree b) (accessedOn b m w)
-planOf drain b select window m = bufferStep (stores b) (length m)
-planOf none b select window m = refused 5
+-- its plan on the block b, beside the I/O APIC's port words and the memory m
+abbrev pub planOf : {k : ℕ} {x : Step} → Plain k x → List ℕ → IoPorts → List ℕ → Plan
+planOf (runs v w) b io m = core.corePlan (core.viewOf b) io m v w
+planOf (create va h) b io m = planned (walks b) (core.isFree b) (createOn b va)
+planOf (extend w) b io m = planned (walks b) (core.isFree b) (extendOn b m w)
+planOf (accessed w) b io m = planned (walks b) (core.isFree b) (accessedOn b m w)
+planOf drain b io m = bufferStep (stores b) (length m)
+planOf none b io m = refused 5
 
 -- ---- the form of a step, which the number of cores does not change where the core is there
 
@@ -167,8 +168,8 @@ module _ (t m : List ℕ) (e : sound t (length m) ≡ true) (k : ℕ) (h : k < c
       go (answer.Refused n) q = subst (λ (x : Plan). Law t m k x (record { answer = answer.Refused n; tables = counted t; memory = m })) (sym (D .is-still n q)) (refused-law n)
 
   -- the plan may be done: of the core's block it asks one word, of memory its bytes
-  pub plan-done : {x : Step} (o : Plain k x) → Bytes m → getD (block t k) (at.spr + at.pto) 0 < 2 ^ 32 → MayBeDone (length m) (block t k) (planOf o (block t k) (ioregselOf t) (iowinOf t) m)
-  plan-done (runs v w) b q = core-plan (block t k) m (ioregselOf t) (iowinOf t) v w (quarters t (length m) e)
+  pub plan-done : {x : Step} (o : Plain k x) → Bytes m → getD (block t k) (at.spr + at.pto) 0 < 2 ^ 32 → MayBeDone (length m) (block t k) (planOf o (block t k) (core.ioPortsOf t) m)
+  plan-done (runs v w) b q = core-plan (block t k) (core.ioPortsOf t) m v w (quarters t (length m) e)
   plan-done (create va l) b q = create-plan (block t k) m va l q
   plan-done (extend w) b q = extend-plan (block t k) m w (core-sound t (length m) e k h) b
   plan-done (accessed w) b q = accessed-plan (block t k) m w
@@ -176,7 +177,7 @@ module _ (t m : List ℕ) (e : sound t (length m) ≡ true) (k : ℕ) (h : k < c
   plan-done none b q = may-be-done (refused-doable (length m) (block t k) 5)
 
   taken-law : {x : Step} (o : Plain k x) → Bytes m → getD (block t k) (at.spr + at.pto) 0 < 2 ^ 32
-      → Law t m k (planOf o (block t k) (ioregselOf t) (iowinOf t) m) (after (answerOf (byStep t m x)) (byStep t m x) t m)
+      → Law t m k (planOf o (block t k) (core.ioPortsOf t) m) (after (answerOf (byStep t m x)) (byStep t m x) t m)
   unfolding byStep
   taken-law (runs v w) b q = plan-law _ (plan-done (runs v w) b q)
   taken-law (create va l) b q = plan-law _ (plan-done (create va l) b q)
@@ -186,7 +187,7 @@ module _ (t m : List ℕ) (e : sound t (length m) ≡ true) (k : ℕ) (h : k < c
   taken-law none b q = unfold after in refused-law 5
 
 pub step-law : (t m s : List ℕ) → sound t (length m) ≡ true → Bytes m → word s 1 < coresOf t → getD (block t (word s 1)) (at.spr + at.pto) 0 < 2 ^ 32
-    → (o : Plain (word s 1) (formOf s)) → Law t m (word s 1) (planOf o (block t (word s 1)) (ioregselOf t) (iowinOf t) m) (step t m s)
+    → (o : Plain (word s 1) (formOf s)) → Law t m (word s 1) (planOf o (block t (word s 1)) (core.ioPortsOf t) m) (step t m s)
 unfolding step taken decided
 step-law t m s e b h q o =
     rw (e, form-same (coresOf t) s h) (taken-law t m e (word s 1) h o b q)

@@ -7,7 +7,7 @@ use lib.ListN.{length}
 use Rattle.word.specs.Word.{if_then_else_}
 use Rattle.layout.specs.Blocks.{block}
 use Rattle.records.specs.Records.{stores, walks}
-use Rattle.tables.specs.Views.{coresOf, ioregselOf, iowinOf}
+use Rattle.tables.specs.Views.{coresOf}
 use Rattle.tlb.specs.declared.Decision.{Decision}
 use Rattle.tlb.specs.Steps.{createOn, extendOn, accessedOn}
 use Rattle.apic.specs.declared.vectors.Found.{Found}
@@ -19,9 +19,9 @@ use Rattle.ioapic.specs.IoApic.{maySample, mayDeliver}
 use Rattle.steps.specs.declared.Step.{Step}
 use Rattle.steps.specs.declared.Step.the-variants as kind
 use Rattle.steps.specs.Form.{stepOf}
-use Rattle.cores.specs.Core.{viewOf, isFree, corePlan}
-use Rattle.cores.specs.Walks.{planned}
-use Rattle.cores.specs.Buffer.{bufferStep}
+use Rattle.cores.specs.Core.{viewOf, ioPortsOf, isFree, corePlan}
+use Rattle.cores.specs.TlbSteps.{planned}
+use Rattle.cores.specs.BufferStep.{bufferStep}
 use Rattle.machine.specs.declared.action.Action.{Action}
 use Rattle.machine.specs.declared.action.Action.the-variants.{Refused, Planned, SendIpi, SendEoi, InitCore, StartCore, Sample, Deliver, SetLine}
 
@@ -42,7 +42,7 @@ toEnd k (Vector v) = SendEoi k v
 toEnd k None = Refused 6
 
 unfoldable pub byStep : List ℕ → List ℕ → Step → Action
-byStep t m (kind.Core k wI wR) = Planned k (corePlan (viewOf (block t k) (ioregselOf t) (iowinOf t)) m wI wR)
+byStep t m (kind.Core k wI wR) = Planned k (corePlan (viewOf (block t k)) (ioPortsOf t) m wI wR)
 byStep t m (kind.TlbCreate k va) = plannedOn k (block t k) (createOn (block t k) va)
 byStep t m (kind.TlbExtend k w) = plannedOn k (block t k) (extendOn (block t k) m w)
 byStep t m (kind.TlbAccessed k w) = plannedOn k (block t k) (accessedOn (block t k) m w)

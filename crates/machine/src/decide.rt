@@ -3,9 +3,11 @@ use super::action::Action;
 use apic::active;
 use apic::active::Sending;
 use apic::vectors::Found;
+use cores::IoPorts;
 use cores::Plan;
-use cores::buffer;
-use cores::fetch;
+use cores::buffer_step;
+use cores::core_step;
+use cores::tlb_steps;
 use ioapic::ports;
 use records::Walk;
 use steps::Step;
@@ -16,20 +18,21 @@ ghost use lib.ListN.{length};
 ghost use Rattle.layout.specs.Blocks.{block};
 ghost use Rattle.records.specs.Contents.{soundRecords};
 ghost use Rattle.tables.specs.Sound.{sound};
-ghost use Rattle.tables.specs.Views.{coresOf, ioregselOf, iowinOf};
+ghost use Rattle.tables.specs.Views.{coresOf};
 ghost use Rattle.cores.specs.Core as c;
 ghost use Rattle.machine.specs.Decide as x;
 ghost use Rattle.machine.specs.inner.Split as y;
 
-fn core(t: &[u32], m: &[u8], k: u32, fetch: Walk, second: Walk) -> Plan
+fn core(t: &[u32], m: &[u8], k: u32, fetch: Walk, access: Walk) -> Plan
     requires { ⌜ 32 + 256 * k + 256 ≤ length (now t) ⌝ }
     requires { ⌜ soundRecords (length (now m)) (block (now t) k) ≡ true ⌝ }
     requires { ⌜ length (now m) % 4 ≡ 0 ⌝ }
-    ensures { λ r. ⌜ r ≡ c.corePlan (c.viewOf (block (now (t .entry)) k) (ioregselOf (now (t .entry))) (iowinOf (now (t .entry)))) (now (m .entry)) fetch second ⌝ }
+    ensures { λ r. ⌜ r ≡ c.corePlan (c.viewOf (block (now (t .entry)) k)) (c.ioPortsOf (now (t .entry))) (now (m .entry)) fetch access ⌝ }
 {
     let select = t[layout::IOREGSEL];
     let window = t[layout::IOWIN];
-    fetch::decide(layout::block(t, k), select, window, m, fetch, second)
+    let io = IoPorts { select, window };
+    core_step::core_step(layout::block(t, k), io, m, fetch, access)
 }
 
 // What core k sends, an interrupt or an EOI message; where there is nothing to send, the step is refused.
@@ -108,11 +111,11 @@ pub fn plan(t: &[u32], m: &[u8], p: Step) -> Plan
     ensures { λ r. ⌜ Action.Planned (y.coreOf p) r ≡ x.byStep (now (t .entry)) (now (m .entry)) p ⌝ }
 {
     match p {
-        Step::Core(k, fetch, second) => core(t, m, k, fetch, second),
-        Step::TlbCreate(k, va) => buffer::create(layout::block(t, k), va),
-        Step::TlbExtend(k, w) => buffer::extend(layout::block(t, k), m, w),
-        Step::TlbAccessed(k, w) => buffer::accessed(layout::block(t, k), m, w),
-        Step::StoreBuffer(k) => buffer::drain(layout::block(t, k), m.len()),
+        Step::Core(k, fetch, access) => core(t, m, k, fetch, access),
+        Step::TlbCreate(k, va) => tlb_steps::create(layout::block(t, k), va),
+        Step::TlbExtend(k, w) => tlb_steps::extend(layout::block(t, k), m, w),
+        Step::TlbAccessed(k, w) => tlb_steps::accessed(layout::block(t, k), m, w),
+        Step::StoreBuffer(k) => buffer_step::drain(layout::block(t, k), m.len()),
         Step::SendIpi(_) => cores::refused(5),
         Step::SendEoi(_) => cores::refused(5),
         Step::InitCore(_) => cores::refused(5),

@@ -44,7 +44,8 @@ use Rattle.cores.specs.declared.Write.{Write}
 use Rattle.cores.specs.declared.Write.the-variants.{Memory}
 use Rattle.cores.specs.declared.Plan.{Plan}
 use Rattle.cores.specs.Plans.{refused, finished}
-use Rattle.cores.specs.Core.{View, isEvent, vectorOf, suppressed, causes, physical, onLoad, onStore, onCas, storedFrom, exchanged, performed, isAccess, findsBuffer, avoidsPorts, hasHazard, dataRequestOf}
+use Rattle.cores.specs.declared.IoPorts.{IoPorts}
+use Rattle.cores.specs.Core.{View, ioPortsOf, portsBeside, isEvent, vectorOf, suppressed, causes, physical, onLoad, onStore, onCas, storedFrom, exchanged, performed, isAccess, findsBuffer, avoidsPorts, hasHazard, dataRequestOf}
 use Rattle.cores.specs.Commit.{writtenTo}
 use Rattle.cores.proofs.Free.{free-there}
 use Rattle.cores.proofs.Decisions.{MayBeDone}
@@ -119,6 +120,9 @@ module _ (t m : List ℕ) (e : sound t (length m) ≡ true) (low : Words t) (i :
 
   abbrev v : View
   v = facts.v t m i wI wR
+
+  abbrev io : IoPorts
+  io = ioPortsOf t
 
   abbrev u : Bool
   u = user (v .core)
@@ -203,12 +207,12 @@ module _ (t m : List ℕ) (e : sound t (length m) ≡ true) (low : Words t) (i :
 
     module _ (ld : load x ≡ true) where
       abbrev seen : ℕ → Read
-      seen = system.ms (v .sb) (v .ports) m
+      seen = system.ms (v .sb) (portsBeside v io) m
 
       no-hazard : sbhazard (v .sb) a (d x) ≡ false
       no-hazard = sym (ap (λ (y : Bool). y && sbhazard (v .sb) a (d x)) ld) ∙ A .safe
 
-      load-is : (r : Read) → reads (d x) seen a ≡ r → performed v m x w ca a ≡ onLoad v x w ca (onRead (maxsbhit (v .sb) a) r)
+      load-is : (r : Read) → reads (d x) seen a ≡ r → performed v io m x w ca a ≡ onLoad v x w ca (onRead (maxsbhit (v .sb) a) r)
       unfolding performed loaded
       load-is r p = rw (ld, no-hazard, p) refl
 
@@ -234,10 +238,10 @@ module _ (t m : List ℕ) (e : sound t (length m) ≡ true) (low : Words t) (i :
           missed t m i h wI wR (a + o .0)
           (λ M. needs.misses-load t m i h wI wR M w (F .fetched M) (a + o .0) (does-as M load ∙ ld) (omega arith) (omega (arith, o .1)) (n .0) (n .1)) (guards-hold nothing)
 
-      pub loads : MayBeDone (length m) b (performed v m x w ca a) → K t m i h wI wR (performed v m x w ca a)
+      pub loads : MayBeDone (length m) b (performed v io m x w ca a) → K t m i h wI wR (performed v io m x w ca a)
       loads = go (reads (d x) seen a) refl
         where
-          go : (r : Read) → reads (d x) seen a ≡ r → MayBeDone (length m) b (performed v m x w ca a) → K t m i h wI wR (performed v m x w ca a)
+          go : (r : Read) → reads (d x) seen a ≡ r → MayBeDone (length m) b (performed v io m x w ca a) → K t m i h wI wR (performed v io m x w ca a)
           go (There z) p = subst (λ (y : Plan). MayBeDone (length m) b y → K t m i h wI wR y) (sym (load-is (There z) p)) (load-done z p)
           go Nowhere p = subst (λ (y : Plan). MayBeDone (length m) b y → K t m i h wI wR y) (sym (load-is Nowhere p)) (λ D. load-misses p)
 
@@ -247,7 +251,7 @@ module _ (t m : List ℕ) (e : sound t (length m) ≡ true) (low : Words t) (i :
       abbrev new : Store
       new = storedFrom (v .core) x w a
 
-      store-is : performed v m x w ca a ≡ onStore v x w ca new (allThere (d x) (length m) a)
+      store-is : performed v io m x w ca a ≡ onStore v x w ca new (allThere (d x) (length m) a)
       unfolding performed
       store-is = rw (no-load, st) refl
 
@@ -295,7 +299,7 @@ module _ (t m : List ℕ) (e : sound t (length m) ≡ true) (low : Words t) (i :
       is-free : leb 8 (length (v .sb)) ≡ false → v .free ≡ true
       is-free l = free-there b long (block-linked (length m) b good) (omega (arith, leb-false 8 (length (stores b)) l, block-few-walks (length m) b good long))
 
-      pub stored : MayBeDone (length m) b (performed v m x w ca a) → K t m i h wI wR (performed v m x w ca a)
+      pub stored : MayBeDone (length m) b (performed v io m x w ca a) → K t m i h wI wR (performed v io m x w ca a)
       stored = subst (λ (y : Plan). MayBeDone (length m) b y → K t m i h wI wR y) (sym store-is) (go (allThere (d x) (length m) a) refl (leb 8 (length (v .sb))) refl (v .free) refl)
         where
           go : (o : Bool) → allThere (d x) (length m) a ≡ o → (l : Bool) → leb 8 (length (v .sb)) ≡ l → (f : Bool) → v .free ≡ f →
@@ -315,7 +319,7 @@ module _ (t m : List ℕ) (e : sound t (length m) ≡ true) (low : Words t) (i :
       wide : d x ≡ 4
       wide = cas-width x (A .acc) no-load no-store
 
-      cas-is : (r : Read) → reads 4 (memoryByte m) a ≡ r → performed v m x w ca a ≡ onCas v x w ca a r
+      cas-is : (r : Read) → reads 4 (memoryByte m) a ≡ r → performed v io m x w ca a ≡ onCas v x w ca a r
       unfolding performed
       cas-is r p = rw (no-load, no-store, p) refl
 
@@ -393,10 +397,10 @@ module _ (t m : List ℕ) (e : sound t (length m) ≡ true) (low : Words t) (i :
           missed t m i h wI wR a
           (λ M. needs.misses-swap t m i h wI wR M w (F .fetched M) a (does-as M cas ∙ is-cas) (omega arith) (omega arith) (word-out m (whole-words t (length m) e) a four low-address p)) (guards-hold nothing)
 
-      pub exchanges : MayBeDone (length m) b (performed v m x w ca a) → K t m i h wI wR (performed v m x w ca a)
+      pub exchanges : MayBeDone (length m) b (performed v io m x w ca a) → K t m i h wI wR (performed v io m x w ca a)
       unfolding swapped
       exchanges = go (reads 4 (memoryByte m) a) refl
         where
-          go : (r : Read) → reads 4 (memoryByte m) a ≡ r → MayBeDone (length m) b (performed v m x w ca a) → K t m i h wI wR (performed v m x w ca a)
+          go : (r : Read) → reads 4 (memoryByte m) a ≡ r → MayBeDone (length m) b (performed v io m x w ca a) → K t m i h wI wR (performed v io m x w ca a)
           go (There z) p = subst (λ (y : Plan). MayBeDone (length m) b y → K t m i h wI wR y) (sym (cas-is (There z) p)) (cas-done z p)
           go Nowhere p = subst (λ (y : Plan). MayBeDone (length m) b y → K t m i h wI wR y) (sym (cas-is Nowhere p)) (λ D. cas-misses p)

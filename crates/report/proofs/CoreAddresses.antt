@@ -30,7 +30,7 @@ use Rattle.tables.specs.Sound.{sound}
 use Rattle.tables.proofs.Parts.{records-of}
 use Rattle.tables.proofs.Lift.{core-sound}
 use Rattle.cores.specs.Core.{View, physical, isAccess}
-use Rattle.cores.proofs.Words.{general-at, pc-at}
+use Rattle.tables.proofs.Shown.{general-at, pc-at}
 use Rattle.cores.proofs.Held.{held-base, used-base}
 use Rattle.report.specs.Demands.{Words}
 use Rattle.report.proofs.CoreFacts as facts

@@ -20,7 +20,7 @@ use Rattle.tlb.specs.declared.Request.{Request}
 use Rattle.tlb.specs.declared.Faulting.{Faulting}
 use Rattle.tlb.specs.declared.Faulting.the-variants.{Faults, Passes, Undecided}
 use Rattle.tlb.specs.Walks as tlb
-use Rattle.tables.specs.Views.{coresOf, ioregselOf, iowinOf}
+use Rattle.tables.specs.Views.{coresOf}
 use Rattle.apic.specs.declared.vectors.Found.{Found}
 use Rattle.apic.specs.declared.vectors.Found.the-variants.{Vector, None}
 use Rattle.apic.specs.Vectors as vectors
@@ -104,7 +104,7 @@ module _ (t m : List ℕ) (i : ℕ) (wI wR : Walk) where
   b = block t i
 
   abbrev pub v : View
-  v = viewOf b (ioregselOf t) (iowinOf t)
+  v = viewOf b
 
   abbrev pub u : Bool
   u = user (v .core)

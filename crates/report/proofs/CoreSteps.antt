@@ -24,14 +24,15 @@ use Rattle.tlb.specs.Walks.{walkBa, complete, hit}
 use Rattle.store_buffer.specs.declared.Read.{Read}
 use Rattle.store_buffer.specs.declared.Read.the-variants.{There, Nowhere}
 use Rattle.store_buffer.specs.System.{memoryByte, reads, isPort}
-use Rattle.tables.specs.Views.{coresOf, ioregselOf, iowinOf}
+use Rattle.tables.specs.Views.{coresOf}
 use Rattle.tables.specs.Sound.{sound}
 use Rattle.steps.specs.declared.Step.the-variants.{Core}
 use Rattle.cores.specs.declared.WalkChange.{WalkChange}
 use Rattle.cores.specs.declared.Plan.{Plan}
 use Rattle.cores.specs.Guards.{settle}
 use Rattle.cores.specs.Plans.{refused}
-use Rattle.cores.specs.Core.{View, faultOf, physical, causes, suppressed, stopped, plain, performed, withoutAccess, isAccess, findsBuffer, avoidsPorts, hasHazard, dataRequestOf, fetchRequestOf, onAddress, onData, onAccess, onInstruction, onFetchAddress, onFetch, fetch, corePlan}
+use Rattle.cores.specs.declared.IoPorts.{IoPorts}
+use Rattle.cores.specs.Core.{View, ioPortsOf, faultOf, physical, causes, suppressed, stopped, plain, performed, withoutAccess, isAccess, findsBuffer, avoidsPorts, hasHazard, dataRequestOf, fetchRequestOf, onAddress, onData, onAccess, onInstruction, onFetchAddress, onFetch, fetch, corePlan}
 use Rattle.cores.proofs.Decisions.{MayBeDone}
 use Rattle.cores.proofs.Executions.{core-plan}
 use Rattle.cores.proofs.Held.{same-offset}
@@ -59,6 +60,9 @@ module _ (t m : List ℕ) (e : sound t (length m) ≡ true) (low : Words t) (i :
 
   abbrev v : View
   v = facts.v t m i wI wR
+
+  abbrev io : IoPorts
+  io = ioPortsOf t
 
   abbrev u : Bool
   u = user (v .core)
@@ -93,42 +97,42 @@ module _ (t m : List ℕ) (e : sound t (length m) ≡ true) (low : Words t) (i :
 
     module _ (acc : isAccess x ≡ true) (f : findsBuffer (v .sb) x ≡ true) (g : heldR ≡ true)
         (clear : (M : ℕ → ℕ) → (u && fault (memoryOf m M) (dataRequestOf (v .core) x w) wR) ≡ false) (has : HasR t m i h wI wR w) (k : (not u || complete wR) ≡ true) where
-      address : Good (settle refused (onAddress v m x w a))
+      address : Good (settle refused (onAddress v io m x w a))
       address = by-port (avoidsPorts x && isPort a) refl
         where
           accessed : (avoidsPorts x && isPort a) ≡ false → hasHazard (v .sb) x a ≡ false → suppressed ca ≡ false → Accessed t m e low i h wI wR w F
           accessed p q s = record { acc = acc; finds = f; held = g; clear = clear; entry = has; ended = k; free = p; safe = q; runs = s }
 
-          by-kind : (p : (avoidsPorts x && isPort a) ≡ false) (q : hasHazard (v .sb) x a ≡ false) (s : suppressed ca ≡ false) (l o : Bool) → load x ≡ l → store x ≡ o → Good (performed v m x w ca a)
+          by-kind : (p : (avoidsPorts x && isPort a) ≡ false) (q : hasHazard (v .sb) x a ≡ false) (s : suppressed ca ≡ false) (l o : Bool) → load x ≡ l → store x ≡ o → Good (performed v io m x w ca a)
           by-kind p q s true o y z = loads t m e low i h wI wR w F (accessed p q s) y
           by-kind p q s false true y z = stored t m e low i h wI wR w F (accessed p q s) y z
           by-kind p q s false false y z = exchanges t m e low i h wI wR w F (accessed p q s) y z
 
-          by-causes : (p : (avoidsPorts x && isPort a) ≡ false) (q : hasHazard (v .sb) x a ≡ false) (s : Bool) → suppressed ca ≡ s → Good (settle refused (onAddress v m x w a))
-          by-causes p q true s = to (judging.address-stopped v m x w a p q s) (instructions.access-stops t m e low i h wI wR w F acc f g clear has k p q s)
-          by-causes p q false s = to (judging.address-performed v m x w a p s) (by-kind p q s (load x) (store x) refl refl)
+          by-causes : (p : (avoidsPorts x && isPort a) ≡ false) (q : hasHazard (v .sb) x a ≡ false) (s : Bool) → suppressed ca ≡ s → Good (settle refused (onAddress v io m x w a))
+          by-causes p q true s = to (judging.address-stopped v io m x w a p q s) (instructions.access-stops t m e low i h wI wR w F acc f g clear has k p q s)
+          by-causes p q false s = to (judging.address-performed v io m x w a p s) (by-kind p q s (load x) (store x) refl refl)
 
-          by-hazard : (p : (avoidsPorts x && isPort a) ≡ false) (q : Bool) → hasHazard (v .sb) x a ≡ q → Good (settle refused (onAddress v m x w a))
-          by-hazard p true q = to (judging.address-hazard v m x w a p q) (refused-as (instructions.access-hazard t m e low i h wI wR w F acc f g clear has q))
+          by-hazard : (p : (avoidsPorts x && isPort a) ≡ false) (q : Bool) → hasHazard (v .sb) x a ≡ q → Good (settle refused (onAddress v io m x w a))
+          by-hazard p true q = to (judging.address-hazard v io m x w a p q) (refused-as (instructions.access-hazard t m e low i h wI wR w F acc f g clear has q))
           by-hazard p false q = by-causes p q (suppressed ca) refl
 
-          by-port : (p : Bool) → (avoidsPorts x && isPort a) ≡ p → Good (settle refused (onAddress v m x w a))
-          by-port true p = to (judging.address-port v m x w a p) (refused-as (instructions.access-port t m e low i h wI wR w F acc f g clear has p))
+          by-port : (p : Bool) → (avoidsPorts x && isPort a) ≡ p → Good (settle refused (onAddress v io m x w a))
+          by-port true p = to (judging.address-port v io m x w a p) (refused-as (instructions.access-port t m e low i h wI wR w F acc f g clear has p))
           by-port false p = by-hazard p (hasHazard (v .sb) x a) refl
 
     module _ (acc : isAccess x ≡ true) (f : findsBuffer (v .sb) x ≡ true) where
-      by-data : heldR ≡ true → (r : Faulting) → Decides m whole u (dataRequestOf (v .core) x w) wR r → Good (settle refused (onData v m wR x w r))
-      by-data g Faults (Decides.faults y n l) = to (judging.data-faults v m wR x w) (instructions.access-faults t m e low i h wI wR w F acc f g n l)
-      by-data g Undecided (Decides.undecided y n q l) = to (judging.data-undecided v m wR x w) (λ D. instructions.access-misses t m e low i h wI wR w F acc f g y n q l)
+      by-data : heldR ≡ true → (r : Faulting) → Decides m whole u (dataRequestOf (v .core) x w) wR r → Good (settle refused (onData v io m wR x w r))
+      by-data g Faults (Decides.faults y n l) = to (judging.data-faults v io m wR x w) (instructions.access-faults t m e low i h wI wR w F acc f g n l)
+      by-data g Undecided (Decides.undecided y n q l) = to (judging.data-undecided v io m wR x w) (λ D. instructions.access-misses t m e low i h wI wR w F acc f g y n q l)
       by-data g Passes (Decides.passes clear has) = go (not u || complete wR) refl
         where
-          go : (k : Bool) → (not u || complete wR) ≡ k → Good (settle refused (onData v m wR x w Passes))
-          go true k = to (judging.data-complete v m wR x w (not u || complete wR) refl k) (address acc f g clear has k)
-          go false k = to (judging.data-incomplete v m wR x w (not u || complete wR) refl k) (refused-as (instructions.access-open t m e low i h wI wR w F acc f g clear has k))
+          go : (k : Bool) → (not u || complete wR) ≡ k → Good (settle refused (onData v io m wR x w Passes))
+          go true k = to (judging.data-complete v io m wR x w (not u || complete wR) refl k) (address acc f g clear has k)
+          go false k = to (judging.data-incomplete v io m wR x w (not u || complete wR) refl k) (refused-as (instructions.access-open t m e low i h wI wR w F acc f g clear has k))
 
-      access : (g : Bool) → heldR ≡ g → Good (settle refused (onAccess v m wR x w))
-      access true g = to (judging.access-fit v m wR x w heldR (faultOf v m (dataRequestOf (v .core) x w) wR) refl g refl) (by-data g (faultOf v m (dataRequestOf (v .core) x w) wR) (decides m whole u (dataRequestOf (v .core) x w) wR))
-      access false g = to (judging.access-unfit v m wR x w heldR refl g) (refused-as (instructions.access-unfit t m e low i h wI wR w F acc f g))
+      access : (g : Bool) → heldR ≡ g → Good (settle refused (onAccess v io m wR x w))
+      access true g = to (judging.access-fit v io m wR x w heldR (faultOf v m (dataRequestOf (v .core) x w) wR) refl g refl) (by-data g (faultOf v m (dataRequestOf (v .core) x w) wR) (decides m whole u (dataRequestOf (v .core) x w) wR))
+      access false g = to (judging.access-unfit v io m wR x w heldR refl g) (refused-as (instructions.access-unfit t m e low i h wI wR w F acc f g))
 
     -- ---- an instruction
 
@@ -139,10 +143,10 @@ module _ (t m : List ℕ) (e : sound t (length m) ≡ true) (low : Words t) (i :
         go true s = instructions.plain-stops t m e low i h wI wR w F n f s
         go false s = instructions.plain-done t m e low i h wI wR w F n f s
 
-    instruction : (f o : Bool) → findsBuffer (v .sb) x ≡ f → isAccess x ≡ o → Good (settle refused (onInstruction v m wR x w))
-    instruction false o f n = to (judging.instruction-waits v m wR x w (findsBuffer (v .sb) x) refl f) (refused-as (instructions.waits t m e low i h wI wR w F f))
-    instruction true false f n = to (judging.instruction-plain v m wR x w (findsBuffer (v .sb) x) refl f n) (without n f)
-    instruction true true f n = to (judging.instruction-access v m wR x w (findsBuffer (v .sb) x) refl f n) (access n f heldR refl)
+    instruction : (f o : Bool) → findsBuffer (v .sb) x ≡ f → isAccess x ≡ o → Good (settle refused (onInstruction v io m wR x w))
+    instruction false o f n = to (judging.instruction-waits v io m wR x w (findsBuffer (v .sb) x) refl f) (refused-as (instructions.waits t m e low i h wI wR w F f))
+    instruction true false f n = to (judging.instruction-plain v io m wR x w (findsBuffer (v .sb) x) refl f n) (without n f)
+    instruction true true f n = to (judging.instruction-access v io m wR x w (findsBuffer (v .sb) x) refl f n) (access n f heldR refl)
 
   -- ---- the fetch
 
@@ -179,34 +183,34 @@ module _ (t m : List ℕ) (e : sound t (length m) ≡ true) (low : Words t) (i :
       word-found : (w : ℕ) → reads 4 (memoryByte m) pmaI ≡ There w → Found t m e low i h wI wR w
       word-found w r = record { fetched = λ M. fetches M w (memory-reads m M 4 pmaI w r); entry = has; within = word-in m whole pmaI four small w r }
 
-      by-word : (r : Read) → reads 4 (memoryByte m) pmaI ≡ r → Good (settle refused (onFetchAddress v m wR pmaI))
-      by-word (There w) r = to (judging.fetch-word v m wR pmaI p w r) (instruction w (word-found w r) (findsBuffer (v .sb) (decoded w)) (isAccess (decoded w)) refl refl)
-      by-word Nowhere r = to (judging.fetch-nowhere v m wR pmaI p r) (λ D. word-misses r)
+      by-word : (r : Read) → reads 4 (memoryByte m) pmaI ≡ r → Good (settle refused (onFetchAddress v io m wR pmaI))
+      by-word (There w) r = to (judging.fetch-word v io m wR pmaI p w r) (instruction w (word-found w r) (findsBuffer (v .sb) (decoded w)) (isAccess (decoded w)) refl refl)
+      by-word Nowhere r = to (judging.fetch-nowhere v io m wR pmaI p r) (λ D. word-misses r)
 
-    by-fetch : (r : Faulting) → Decides m whole u rq wI r → Good (settle refused (onFetch v m wI wR r))
-    by-fetch Faults (Decides.faults y n l) = to (judging.fetch-faults v m wI wR) (fetch-faults t m i h wI wR e run ali g y n l)
-    by-fetch Undecided (Decides.undecided y n q l) = to (judging.fetch-undecided v m wI wR) (λ D. fetch-misses t m i h wI wR e run ali g y n q l)
+    by-fetch : (r : Faulting) → Decides m whole u rq wI r → Good (settle refused (onFetch v io m wI wR r))
+    by-fetch Faults (Decides.faults y n l) = to (judging.fetch-faults v io m wI wR) (fetch-faults t m i h wI wR e run ali g y n l)
+    by-fetch Undecided (Decides.undecided y n q l) = to (judging.fetch-undecided v io m wI wR) (λ D. fetch-misses t m i h wI wR e run ali g y n q l)
     by-fetch Passes (Decides.passes clear has) = by-end (not u || complete wI) refl
       where
-        by-port : (k : (not u || complete wI) ≡ true) (p : Bool) → isPort pmaI ≡ p → Good (settle refused (onFetchAddress v m wR pmaI))
-        by-port k true p = to (judging.fetch-port v m wR pmaI p) (refused-as (refuse t m i h wI wR (λ M. stops-port t m i h wI wR M ali (clear M) p)))
+        by-port : (k : (not u || complete wI) ≡ true) (p : Bool) → isPort pmaI ≡ p → Good (settle refused (onFetchAddress v io m wR pmaI))
+        by-port k true p = to (judging.fetch-port v io m wR pmaI p) (refused-as (refuse t m i h wI wR (λ M. stops-port t m i h wI wR M ali (clear M) p)))
         by-port k false p = by-word clear (λ y. has) k p (reads 4 (memoryByte m) pmaI) refl
 
-        by-end : (k : Bool) → (not u || complete wI) ≡ k → Good (settle refused (onFetch v m wI wR Passes))
-        by-end true k = to (judging.fetch-complete v m wI wR (not u || complete wI) refl k) (by-port k (isPort pmaI) refl)
-        by-end false k = to (judging.fetch-incomplete v m wI wR (not u || complete wI) refl k) (refused-as (refuse t m i h wI wR (λ M. stops-incomplete t m i h wI wR M ali (clear M) k)))
+        by-end : (k : Bool) → (not u || complete wI) ≡ k → Good (settle refused (onFetch v io m wI wR Passes))
+        by-end true k = to (judging.fetch-complete v io m wI wR (not u || complete wI) refl k) (by-port k (isPort pmaI) refl)
+        by-end false k = to (judging.fetch-incomplete v io m wI wR (not u || complete wI) refl k) (refused-as (refuse t m i h wI wR (λ M. stops-incomplete t m i h wI wR M ali (clear M) k)))
 
   -- ---- the step
 
-  fetching : v .running ≡ true → al ≡ true → (g : Bool) → heldI ≡ g → Good (settle refused (fetch v m wI wR))
-  fetching run ali true g = to (judging.fetch-fit v m wI wR heldI (faultOf v m rq wI) refl g refl) (by-fetch run ali g (faultOf v m rq wI) (decides m whole u rq wI))
-  fetching run ali false g = to (judging.fetch-unfit v m wI wR heldI refl g) (refused-as (refuse t m i h wI wR (λ M. stops-unfit t m i h wI wR M ali g)))
+  fetching : v .running ≡ true → al ≡ true → (g : Bool) → heldI ≡ g → Good (settle refused (fetch v io m wI wR))
+  fetching run ali true g = to (judging.fetch-fit v io m wI wR heldI (faultOf v m rq wI) refl g refl) (by-fetch run ali g (faultOf v m rq wI) (decides m whole u rq wI))
+  fetching run ali false g = to (judging.fetch-unfit v io m wI wR heldI refl g) (refused-as (refuse t m i h wI wR (λ M. stops-unfit t m i h wI wR M ali g)))
 
-  steps : (r o : Bool) → v .running ≡ r → al ≡ o → Good (corePlan v m wI wR)
-  steps false o run q = to (judging.step-waits v m wI wR run) (refused-as (refuse t m i h wI wR (λ M. stops-waiting t m i h wI wR M run)))
-  steps true false run q = to (judging.step-misaligned v m wI wR run q) (misaligned t m i h wI wR e run q)
-  steps true true run q = to (judging.step-fetch v m wI wR run q) (fetching run q heldI refl)
+  steps : (r o : Bool) → v .running ≡ r → al ≡ o → Good (corePlan v io m wI wR)
+  steps false o run q = to (judging.step-waits v io m wI wR run) (refused-as (refuse t m i h wI wR (λ M. stops-waiting t m i h wI wR M run)))
+  steps true false run q = to (judging.step-misaligned v io m wI wR run q) (misaligned t m i h wI wR e run q)
+  steps true true run q = to (judging.step-fetch v io m wI wR run q) (fetching run q heldI refl)
 
   pub core-case : Case t m (Core i wI wR) (byStep t m (Core i wI wR))
   unfolding byStep
-  core-case = steps (v .running) al refl refl (core-plan b m (ioregselOf t) (iowinOf t) wI wR whole)
+  core-case = steps (v .running) al refl refl (core-plan b io m wI wR whole)

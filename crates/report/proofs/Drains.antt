@@ -33,7 +33,7 @@ use Rattle.cores.specs.declared.Write.{Write}
 use Rattle.cores.specs.declared.Write.the-variants.{Memory, LocalPort, IoPort}
 use Rattle.cores.specs.declared.Plan.{Plan}
 use Rattle.cores.specs.Plans.{refused, done}
-use Rattle.cores.specs.Buffer.{leavesTo, onOldest}
+use Rattle.cores.specs.BufferStep.{leavesTo, onOldest}
 use Rattle.cores.specs.Commit.{writtenTo}
 use Rattle.cores.proofs.Decisions.{MayBeDone, drain-plan}
 use Rattle.machine.specs.declared.action.Action.the-variants.{Planned}

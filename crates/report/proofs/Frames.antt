@@ -10,15 +10,15 @@ use lib.ListN.{length, getD, set, drop, length-set}
 use lib.Seq.{getD-set-same, getD-set-other, getD-take, getD-drop}
 use native.Mathlib.Omega.{arith}
 use borrow.Author.Tests.{ltb-true, ltb-false, eqb-true, eqb-false}
-use Rattle.word.specs.Word.{if_then_else_, bit, isSet}
+use Rattle.word.specs.Word.{if_then_else_, isSet}
 use Rattle.word.proofs.Tests.{or-false}
 use Rattle.word.proofs.Truth.{and-left, and-right, and-both}
 use Rattle.layout.specs.Layout as at
 use Rattle.layout.specs.Blocks.{block, withBlock}
 use Rattle.layout.proofs.Blocks.{with-long, with-header, with-block, with-other}
 use Rattle.isa.specs.declared.registers.Registers.{Registers}
-use Rattle.isa.specs.Core.{sprAt, effect}
-use Rattle.isa.specs.Interrupts.{user, deltaJisr, deltaRfe}
+use Rattle.isa.specs.Core.{effect}
+use Rattle.isa.specs.Interrupts.{deltaJisr, deltaRfe}
 use Rattle.records.specs.declared.Store.{Store}
 use Rattle.records.specs.declared.Walk.{Walk}
 use Rattle.records.specs.Records.{stores, walks, among}
@@ -30,7 +30,6 @@ use Rattle.tables.proofs.Places.{registers-same}
 use Rattle.tables.proofs.Bank.{registers-size, put-long, put-above}
 use Rattle.tables.proofs.Steps.{take-after, put-after, add-after, drop-after}
 use Rattle.tables.proofs.Lift.{core-fits, core-long, core-sound}
-use Rattle.tlb.specs.Steps.{userMode, asidOf}
 use Rattle.apic.proofs.Kept.{Kept, Passive}
 use Rattle.ioapic.specs.IoApic as ioapic
 use Rattle.cores.specs.declared.CoreChange.{CoreChange}
@@ -78,19 +77,6 @@ passive b c a K A =
       tlb = λ w. sym (ap (among w) (same-walks L));
       apic = A;
     }
-
--- a special register, the mode, and the address space
-pub spr-at : (b : List ℕ) (k : ℕ) → k < 32 → sprAt (registersOf b) k ≡ getD b (at.spr + k) 0
-unfolding registersOf
-spr-at b k h = getD-take 32 (drop at.spr b) k 0 h ∙ getD-drop at.spr b k 0
-
-pub mode-same : (b : List ℕ) → user (registersOf b) ≡ userMode b
-mode-same b =
-    let e : getD b (at.spr + at.mode) 0 % 2 ≡ bit (getD b (at.spr + at.mode) 0) 0 = omega arith in
-    ap (λ (x : ℕ). eqb (x % 2) 1) (spr-at b at.mode (omega arith)) ∙ ap (λ (x : ℕ). eqb x 1) e
-
-pub asid-same : (b : List ℕ) → sprAt (registersOf b) at.asid % 2 ^ 6 ≡ asidOf b
-asid-same b = ap (λ (x : ℕ). x % 2 ^ 6) (spr-at b at.asid (omega arith))
 
 -- ---- the I/O APIC
 
@@ -196,7 +182,7 @@ module _ (io : IoApic) (t : List ℕ) (v : ℕ) (S : SameIo io (ioapicOf t)) (lo
 -- what a plan does to the local APIC of its core
 abbrev pub apicCore : CoreChange → Apic → Apic
 apicCore CoreChange.Nothing a = a
-apicCore (Interrupt w R ca k) a = δapic a ΣApic.jisr
+apicCore (Interrupt x) a = δapic a ΣApic.jisr
 apicCore Return a = δapic a ΣApic.rfe
 apicCore (Execute i w R) a = a
 
@@ -234,9 +220,9 @@ module _ (n : ℕ) (b : List ℕ) (long : length b ≡ 256) (e : soundBlock n b 
   core-apic : (c : CoreChange) → SameApic (apicCore c (apicOf b)) (apicOf (coreAfter c b))
   unfolding coreAfter
   core-apic CoreChange.Nothing = apic-refl (apicOf b)
-  core-apic (Interrupt w R ca k) =
-      let r : Registers = deltaJisr (registersOf b) w R ca k in
-      let f : Full r = jisr-full (registersOf b) w R ca k (registers-size b long) in
+  core-apic (Interrupt x) =
+      let r : Registers = deltaJisr (registersOf b) (x .word) (x .read) (x .causes) (x .vector) in
+      let f : Full r = jisr-full (registersOf b) (x .word) (x .read) (x .causes) (x .vector) (registers-size b long) in
       jisr-same (apicOf b) (withRegisters b r) (registers-apic r f) (put-long b r long (f .0) (f .1))
   core-apic Return =
       let r : Registers = deltaRfe (registersOf b) in

@@ -16,7 +16,7 @@ use Rattle.layout.specs.Layout as at
 use Rattle.layout.specs.Blocks.{block}
 use Rattle.records.specs.declared.Walk.{Walk}
 use Rattle.records.specs.Records.{walks, same, among, withWalk}
-use Rattle.tables.specs.Views.{coresOf}
+use Rattle.tables.specs.Views.{coresOf, userMode, runs, asidOf}
 use Rattle.tables.specs.Sound.{sound}
 use Rattle.tables.proofs.Lift.{core-long, core-sound}
 use Rattle.tables.proofs.Steps.{block-linked, block-few-stores, block-few-walks}
@@ -24,7 +24,8 @@ use Rattle.tlb.specs.declared.Entry.the-variants.{Word, Missing}
 use Rattle.tlb.specs.declared.Decision.{Decision}
 use Rattle.tlb.specs.declared.Decision.the-variants as tlb
 use Rattle.tlb.specs.Walks.{baseAddress, pteA, pteP, ptea, entryAt, walkAsid, complete, winit, wext, wextFault, suffices, set-d}
-use Rattle.tlb.specs.Steps.{userMode, runs, asidOf, originOf, extendable, tlbCreate, onExtend, tlbExtend, onAccessed, tlbAccessed}
+use Rattle.tables.proofs.Shown.{special-at}
+use Rattle.tlb.specs.Steps.{originOf, extendable, tlbCreate, onExtend, tlbExtend, onAccessed, tlbAccessed}
 use Rattle.tlb.proofs.Fields.{same-walk, ptea-aligned, ptea-low}
 use Rattle.word.proofs.Words.{Words}
 use Rattle.word.proofs.Truth.{and-left, and-right, or-turn}
@@ -40,7 +41,7 @@ use Rattle.cores.specs.declared.Write.the-variants.{Memory}
 use Rattle.cores.specs.declared.Plan.{Plan}
 use Rattle.cores.specs.Plans.{refused, done}
 use Rattle.cores.specs.Core.{isFree}
-use Rattle.cores.specs.Walks.{adding, planned}
+use Rattle.cores.specs.TlbSteps.{adding, planned}
 use Rattle.cores.specs.Commit.{writtenTo}
 use Rattle.cores.proofs.Free.{free-there}
 use Rattle.cores.proofs.Decisions.{MayBeDone, create-plan, extend-plan, accessed-plan}
@@ -56,7 +57,7 @@ use Rattle.report.specs.Needs.{noByte, misses}
 use Rattle.report.specs.Demands.{Adds, Crowded}
 use Rattle.report.proofs.Memory.{memory-out, memory-bytes, bytes-step, inside-from, inside-is, put-memory}
 use Rattle.report.proofs.Cases.{δx, Has, Roomy, adds-none, Case, is-a-step}
-use Rattle.report.proofs.Frames.{spr-at, mode-same, asid-same, io-still, plan-processor, plan-same, plan-memory-same}
+use Rattle.report.proofs.Frames.{io-still, plan-processor, plan-same, plan-memory-same}
 
 -- ---- the walks as a set
 
@@ -144,11 +145,11 @@ module _ (t m : List ℕ) (e : sound t (length m) ≡ true) (ws : Words t) (k : 
 
   new-same : (M : ℕ → ℕ) → report.created (view t m M) k va ≡ new
   unfolding view processorOf
-  new-same M = ap₂ (λ (o a : ℕ). winit va o a) (ap baseAddress (spr-at b₁ at.pto (omega arith))) (asid-same b₁)
+  new-same M = ap (λ (o : ℕ). winit va (baseAddress o) (asidOf b₁)) (special-at b₁ at.pto (omega arith))
 
   outcome : (M : ℕ → ℕ) (g : Bool) → (userMode b₁ && runs b₁) ≡ g → δx t m (kind.TlbCreate k va) M ≡ (if g then report.next (added t m e k h new M) report.done else report.none)
   unfolding report.δ report.tlbCreate view processorOf
-  outcome M g q = rw (lt-ltb k (coresOf t) h, mode-same b₁, q, spr-at b₁ at.pto (omega arith), asid-same b₁)
+  outcome M g q = rw (lt-ltb k (coresOf t) h, q, special-at b₁ at.pto (omega arith))
 
   only : (M : ℕ → ℕ) (i : ℕ) (v : Walk) → Adds t m (kind.TlbCreate k va) M i v → (i ≡ k) × (v ≡ new)
   only M i v (Adds.creates j y q) =
@@ -250,7 +251,7 @@ module _ (t m : List ℕ) (e : sound t (length m) ≡ true) (bs : Bytes m) (k : 
       δx t m x₂ M ≡ (if may-extend && extends v then report.next (added t m e k h (wext w v) M) report.done else report.none)
   unfolding report.δ report.tlbExtend view processorOf extendable
   outcome₂ M v q =
-      rw (lt-ltb k (coresOf t) h, asid-same b₂, q)
+      rw (lt-ltb k (coresOf t) h, q)
       (ap (λ (g : Bool). if g then report.next (added t m e k h (wext w v) M) report.done else report.none)
       (order₂ (among w (walks b₂)) (not (complete w)) (eqb (walkAsid w) (asidOf b₂)) (pteA v) (not (wextFault v 0b000)) (runs b₂)))
 
@@ -317,7 +318,7 @@ module _ (t m : List ℕ) (e : sound t (length m) ≡ true) (k : ℕ) (h : k < c
   outcome₃ : (M : ℕ → ℕ) (v : ℕ) → bytes 4 (memoryOf m M) (ptea w) ≡ v → δx t m x₃ M ≡ (if may-mark && pteP v then report.next (marked M v) report.done else report.none)
   unfolding report.δ report.tlbAccessed view processorOf extendable
   outcome₃ M v q =
-      rw (lt-ltb k (coresOf t) h, mode-same b₃, asid-same b₃, q)
+      rw (lt-ltb k (coresOf t) h, q)
       (ap (λ (g : Bool). if g then report.next (marked M v) report.done else report.none)
       (order₃ (userMode b₃) (among w (walks b₃)) (not (complete w)) (eqb (walkAsid w) (asidOf b₃)) (pteP v)))
 

@@ -20,7 +20,8 @@ use Rattle.word.proofs.Truth.{and-left, and-right, and-both}
 use Rattle.tlb.specs.declared.Entry.{Entry}
 use Rattle.tlb.specs.declared.Entry.the-variants.{Word}
 use Rattle.tlb.specs.Walks.{walkLevel, walkR, walkBa, baseAddress, entryAt, pteaAt, pteP, pteR, pteBa, complete}
-use Rattle.tlb.specs.Steps.{userMode, originOf}
+use Rattle.tables.specs.Views.{userMode}
+use Rattle.tlb.specs.Steps.{originOf}
 use Rattle.tlb.proofs.Fields.{level-sound}
 use Rattle.store_buffer.specs.System.{sized, aligned}
 use Rattle.reach.specs.Lists.{range, select}

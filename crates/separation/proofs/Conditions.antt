@@ -12,12 +12,11 @@ use Rattle.word.proofs.Truth.{and-left, and-right, or-cases, or-none-left, or-n
 use Rattle.layout.specs.Layout.{pageBytes}
 use Rattle.layout.specs.Blocks.{block}
 use Rattle.records.specs.Records.{all}
-use Rattle.tables.specs.Views.{coresOf, pagesOf}
+use Rattle.tables.specs.Views.{coresOf, pagesOf, userMode, runs}
 use Rattle.tables.specs.Sound.{sound}
 use Rattle.tables.proofs.Lift.{header, core-sound}
 use Rattle.ioapic.proofs.Blocks.{block-words}
 use Rattle.tlb.specs.Walks.{set-d}
-use Rattle.tlb.specs.Steps.{userMode, runs}
 use Rattle.reach.specs.Lists.{range, has}
 use Rattle.reach.specs.Reach.{Pages, tablePages, reached, reach, inMemory, members, isGroup}
 use Rattle.separation.specs.declared.Verdict.the-variants.{Yes, No, Refused}

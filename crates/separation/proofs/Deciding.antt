@@ -16,9 +16,8 @@ use Rattle.word.specs.Word.{isSet, flag, if_then_else_, withBit}
 use Rattle.word.proofs.Truth.{and-left, and-right, and-both, tested, and-true}
 use Rattle.layout.specs.Blocks.{block}
 use Rattle.records.specs.Records.{all}
-use Rattle.tables.specs.Views.{coresOf, pagesOf}
+use Rattle.tables.specs.Views.{coresOf, pagesOf, runs}
 use Rattle.tables.specs.Sound.{sound}
-use Rattle.tlb.specs.Steps.{runs}
 use Rattle.word.proofs.Bits.{bit-same, bit-other}
 use Rattle.reach.specs.Lists.{range, has, select}
 use Rattle.reach.specs.Reach.{Pages, isGroup, members, tablePages, reached, reach, inMemory, mapByte, mapFor}

@@ -7,10 +7,8 @@ use mathlib.Core.List.{List, [], _∷_, _++_}
 use Prim.Native.Nat.{ℕ, zero, suc, _+_, _-_, _*_, _/_, _^_, _<_, _≤_}
 use native.Mathlib.Omega.{arith}
 use lib.ListN.{getD, drop}
-use lib.Seq.{getD-take, getD-drop}
-use lib.Dec.{ltb}
+use lib.Dec.{ltb, eqb}
 use borrow.Author.Tests.{lt-leb}
-use Rattle.word.specs.Word.{isSet}
 use Rattle.word.specs.Bytes.{bytesAt}
 use Rattle.word.proofs.Bytes.{Bytes}
 use Rattle.word.proofs.Truth.{or-cases}
@@ -20,10 +18,11 @@ use Rattle.records.specs.declared.Store.{Store}
 use Rattle.records.specs.Records.{stores, walks, among, same, withWalk, staying}
 use Rattle.records.specs.Contents.{localPort, ioPort}
 use Rattle.records.proofs.Facts.{same-walk}
-use Rattle.tables.specs.Views.{registersOf}
+use Rattle.tables.specs.Views.{registersOf, userMode}
 use Rattle.tlb.specs.declared.Entry.the-variants.{Word}
 use Rattle.tlb.specs.Walks.{walkLevel, walkR, walkBa, ptea, pteaAt, entryAt, pteP, pteR, pteBa, baseAddress}
-use Rattle.tlb.specs.Steps.{userMode, originOf}
+use Rattle.tlb.specs.Steps.{originOf}
+use Rattle.tables.proofs.Shown.{special-at}
 use Rattle.tlb.proofs.Entries.{entry-in, entry-high, same-ba, same-p, same-r}
 use Rattle.tlb.proofs.Steps.{entry-word}
 use Rattle.tlb.proofs.Fields.{index-lt, ptea-at, ptea-page}
@@ -116,18 +115,11 @@ module _ (S : Pages) (L : Low S) (w : Walk) (k : WalkOk S w) (l : 1 ≤ walkLeve
   pub walk-fits : Fits (ptea w) 4
   walk-fits = omega (arith, ptea-at w (k .word) (omega (arith, walk-low)), index-lt w (k .word))
 
--- ---- what special registers a block has
-
-module _ (b : List ℕ) where
-  pub spr-word : (i : ℕ) → i < 32 → getD (registersOf b .spr) i 0 ≡ getD b (at.spr + i) 0
-  unfolding registersOf
-  spr-word i h = getD-take 32 (drop 32 b) i 0 h ∙ getD-drop 32 b i 0
-
 -- another block with the same special registers, and good walks and stores
 pub good-after : (S : Pages) (b c : List ℕ) → Good S b → registersOf c .spr ≡ registersOf b .spr → Each (WalkOk S) (walks c) → Each (StoreOk S) (stores c) → Good S c
 good-after S b c G e ws ss =
     record {
-      user = ap (λ (n : ℕ). isSet n 0) (same-word at.mode (omega arith)) ∙ G .user;
+      user = ap (λ (l : List ℕ). eqb (getD l at.mode 0 % 2) 1) e ∙ G .user;
       word = omega (arith, G .word, same-word at.pto (omega arith));
       origin = subst (λ (n : ℕ). In (baseAddress n) (S .firsts)) (sym (same-word at.pto (omega arith))) (G .origin);
       held = ws;
@@ -135,7 +127,7 @@ good-after S b c G e ws ss =
     }
   where
     same-word : (i : ℕ) → i < 32 → getD c (at.spr + i) 0 ≡ getD b (at.spr + i) 0
-    same-word i h = sym (spr-word c i h) ∙ ap (λ (l : List ℕ). getD l i 0) e ∙ spr-word b i h
+    same-word i h = sym (special-at c i h) ∙ ap (λ (l : List ℕ). getD l i 0) e ∙ special-at b i h
 
 pub each-with : (P : Walk → Type 0) (w : Walk) (l : List Walk) → P w → Each P l → Each P (withWalk w l)
 unfolding withWalk

@@ -4,51 +4,49 @@ use mathlib.Core.Path.{_≡_, refl, sym, ap, ap₂, subst, _∙_}
 use mathlib.Core.Logic.{_⊎_, ⊎-elim, _≢_}
 use mathlib.Core.Bool.{Bool, true, false, _&&_, _||_, not, false≢true}
 use mathlib.Core.List.{List, [], _∷_}
-use Prim.Native.Nat.{ℕ, zero, suc, _+_, _-_, _*_, _/_, _%_, _^_, _<_, _≤_}
+use Prim.Native.Nat.{ℕ, zero, suc, _+_, _-_, _*_, _%_, _^_, _<_, _≤_}
 use native.Mathlib.Omega.{arith}
-use lib.ListN.{length, getD}
+use lib.ListN.{length}
 use lib.Dec.{eqb, leb}
 use borrow.Author.Tests.{eqb-true}
 use Rattle.word.specs.Word.{if_then_else_, plus}
 use Rattle.word.proofs.Truth.{and-left, and-right, or-cases, tested}
-use Rattle.layout.specs.Layout as at
 use Rattle.decode.specs.declared.Instruction.{Instruction}
 use Rattle.decode.specs.Table.{decoded}
 use Rattle.decode.specs.Mnemonics.{load, store}
-use Rattle.isa.specs.Core.{ea, d, sprAt}
+use Rattle.isa.specs.Core.{ea, d}
 use Rattle.isa.specs.Interrupts.{user}
 use Rattle.records.specs.declared.Walk.{Walk}
 use Rattle.records.specs.declared.Store.{Store}
 use Rattle.records.specs.Records.{stores, walks, among}
 use Rattle.records.specs.Contents.{localPort, ioPort, allThere}
-use Rattle.tables.specs.Views.{registersOf}
+use Rattle.tables.specs.Views.{registersOf, userMode, runs, asidOf}
 use Rattle.tlb.specs.declared.Request.{Request}
 use Rattle.tlb.specs.declared.Faulting.{Faulting}
 use Rattle.tlb.specs.declared.Faulting.the-variants.{Faults, Passes, Undecided}
 use Rattle.tlb.specs.Walks.{walkLevel, walkR, walkBa, complete, hit, pte, ptea, fault, faultBy}
-use Rattle.tlb.specs.Steps.{userMode, runs, asidOf, extendable, tlbExtend, tlbAccessed, onExtend, onAccessed, extendOn, accessedOn}
+use Rattle.tlb.specs.Steps.{extendable, tlbExtend, tlbAccessed, onExtend, onAccessed, extendOn, accessedOn}
 use Rattle.tlb.proofs.Fields.{incomplete-level}
 use Rattle.tlb.proofs.Steps.{is-held, is-incomplete}
+use Rattle.store_buffer.specs.declared.Loaded.the-variants.{Hazard}
 use Rattle.store_buffer.specs.declared.Read.{Read}
 use Rattle.store_buffer.specs.declared.Read.the-variants.{There, Nowhere}
-use Rattle.store_buffer.specs.declared.Loaded.{Loaded}
-use Rattle.store_buffer.specs.declared.Loaded.the-variants as load-variants
-use Rattle.store_buffer.specs.declared.Loaded.the-variants.{Value, Hazard}
 use Rattle.steps.specs.declared.Step.{Step}
 use Rattle.store_buffer.specs.Buffer.{sbhit, sbv, maxsbhit, sbhazard}
 use Rattle.store_buffer.specs.Leaving.{placeOf}
 use Rattle.store_buffer.specs.System.{Ports, isPort, sized, aligned, memoryByte, beneath, msOf, ms, join, reads, onRead, loaded}
 use Rattle.cores.specs.Guards.{yield, test}
-use Rattle.cores.specs.Core.{View, viewOf, isEvent, causes, suppressed, faultOf, physical, onLoad, onStore, onCas, storedFrom, performed, isAccess, avoidsPorts, hasHazard, onAddress, onData, onAccess, onInstruction, findsBuffer, dataRequestOf, fetchRequestOf, onWord, onFetchAddress, onFetch, fetch, judged, corePlan, isFree, withoutAccess}
+use Rattle.cores.specs.Core.{View, viewOf, isEvent, causes, suppressed, faultOf, physical, onLoad, onStore, onCas, storedFrom, performed, isAccess, avoidsPorts, hasHazard, onAddress, onData, onAccess, onInstruction, findsBuffer, dataRequestOf, fetchRequestOf, onWord, onFetchAddress, onFetch, fetch, judged, corePlan, isFree, withoutAccess, portsBeside}
 use Rattle.cores.specs.Plans.{refused}
-use Rattle.cores.specs.Walks.{planned}
-use Rattle.cores.specs.Buffer.{onOldest, bufferStep}
+use Rattle.cores.specs.declared.IoPorts.{IoPorts}
+use Rattle.cores.specs.TlbSteps.{planned}
+use Rattle.cores.specs.BufferStep.{onOldest, bufferStep}
 use Rattle.cores.proofs.Accesses.{access-aligned, cas-width, word-aligned}
 use Rattle.reach.specs.Reach.{Pages, reached, grantsWrite}
 use Rattle.reach.proofs.Lists.{if-same, In, Each}
 use Rattle.separation.proofs.Memory as memory
 use Rattle.separation.proofs.Memory.{page, Agree, Fits, inside-same, all-pages, entryAt-same}
-use Rattle.separation.proofs.Good.{AtLevel, WalkOk, StoreOk, Good, Low, low-local, low-io, among-each, table-reached, data-reached, writable-reached, walk-table, walk-page, walk-fits, spr-word}
+use Rattle.separation.proofs.Good.{AtLevel, WalkOk, StoreOk, Good, Low, low-local, low-io, among-each, table-reached, data-reached, writable-reached, walk-table, walk-page, walk-fits}
 use Rattle.cores.proofs.Asked.{Same, same-refl, same-yield, same-ask, same-test, same-if, settle-same}
 use Rattle.machine.proofs.Locality as plans
 use Rattle.machine.proofs.Locality.{Plain, planOf}
@@ -114,10 +112,7 @@ module _ (S : Pages) (L : Low S) (m n : List ℕ) (A : Agree (reached S) m n) wh
 
 -- a view of it is in user mode
 pub view-user : (S : Pages) (b : List ℕ) → Good S b → user (registersOf b) ≡ true
-view-user S b G =
-    let e : sprAt (registersOf b) at.mode ≡ getD b (at.spr + at.mode) 0 = spr-word b at.mode (omega arith) in
-    let f : getD b (at.spr + at.mode) 0 / 2 ^ 0 % 2 ≡ getD b (at.spr + at.mode) 0 % 2 = omega arith in
-    ap (λ (x : ℕ). eqb (x % 2) 1) e ∙ ap (λ (x : ℕ). eqb x 1) (sym f) ∙ G .user
+view-user S b G = G .user
 
 -- what the guards on a walk say in user mode
 pub guard-held : (u a h : Bool) → u ≡ true → (not u || (a && h)) ≡ true → (a ≡ true) × (h ≡ true)
@@ -139,8 +134,8 @@ module _ (S : Pages) (L : Low S) (b : List ℕ) (G : Good S b) where
   U : user (registersOf b) ≡ true
   U = view-user S b G
 
-  pub user-address : (w : Walk) (a : ℕ) (s i : ℕ) → physical (viewOf b s i) w a ≡ walkBa w * 2 ^ 12 + a % 2 ^ 12
-  user-address w a s i = ap (λ (t : Bool). if t then walkBa w * 2 ^ 12 + a % 2 ^ 12 else a) U
+  pub user-address : (w : Walk) (a : ℕ) → physical (viewOf b) w a ≡ walkBa w * 2 ^ 12 + a % 2 ^ 12
+  user-address w a = ap (λ (t : Bool). if t then walkBa w * 2 ^ 12 + a % 2 ^ 12 else a) U
 
   module _ (m n : List ℕ) (A : Agree (reached S) m n) where
     -- the entry of a held walk that is not complete
@@ -159,36 +154,24 @@ module _ (S : Pages) (L : Low S) (b : List ℕ) (G : Good S b) where
         short : (l : List ℕ) → complete w ≡ true → faultBy t w (pte l w) ≡ Passes
         short l c = unfold faultBy in rw c
 
-    module _ (s i s′ i′ : ℕ) where
+    module _ (io io′ : IoPorts) where
       abbrev X : View
-      X = viewOf b s i
+      X = viewOf b
 
-      abbrev Y : View
-      Y = viewOf b s′ i′
-
-      verdict-same : (t : Request) (w : Walk) → among w (walks b) ≡ true → faultOf X m t w ≡ faultOf Y n t w
+      verdict-same : (t : Request) (w : Walk) → among w (walks b) ≡ true → faultOf X m t w ≡ faultOf X n t w
       verdict-same t w h = ap (λ (x : Faulting). if user (registersOf b) then x else Passes) (fault-same t w h)
 
       -- ports do not matter
-      load-on : (c : Instruction) (w ca : ℕ) (r : Loaded) → onLoad X c w ca r ≡ onLoad Y c w ca r
-      load-on c w ca (Value x h) = refl
-      load-on c w ca load-variants.Nowhere = refl
-      load-on c w ca Hazard = refl
-
-      cas-on : (c : Instruction) (w ca a : ℕ) (r : Read) → onCas X c w ca a r ≡ onCas Y c w ca a r
-      cas-on c w ca a (There x) = refl
-      cas-on c w ca a Nowhere = refl
-
-      performed-same : (c : Instruction) (w ca a : ℕ) → isAccess c ≡ true → In (page a) (reached S) → Fits a (d c) → performed X m c w ca a ≡ performed Y n c w ca a
+      performed-same : (c : Instruction) (w ca a : ℕ) → isAccess c ≡ true → In (page a) (reached S) → Fits a (d c) → performed X io m c w ca a ≡ performed X io′ n c w ca a
       unfolding performed
       performed-same c w ca a x h f =
           if-same (load c) _ _ _ _
-          (λ _. ap (onLoad X c w ca) (loaded-same S L m n A a (d c) h f (stores b) (X .ports) (Y .ports)) ∙ load-on c w ca (loaded (stores b) (Y .ports) n a (d c)))
+          (λ _. ap (onLoad X c w ca) (loaded-same S L m n A a (d c) h f (stores b) (portsBeside X io) (portsBeside X io′)))
           (λ e. if-same (store c) _ _ _ _
           (λ _. ap (onStore X c w ca (storedFrom (X .core) c w a)) (there-same S L m n A (d c) a (same-at S L m n A a (d c) h f)))
-          (λ g. ap (onCas X c w ca a) (word-same S L m n A a 4 h (subst (λ (k : ℕ). Fits a k) (cas-width c x e g) f)) ∙ cas-on c w ca a (reads 4 (memoryByte n) a)))
+          (λ g. ap (onCas X c w ca a) (word-same S L m n A a 4 h (subst (λ (k : ℕ). Fits a k) (cas-width c x e g) f))))
 
-      address-same : (c : Instruction) (w a : ℕ) → isAccess c ≡ true → In (page a) (reached S) → a % 4 ≡ ea c (registersOf b) w % 4 → Same (onAddress X m c w a) (onAddress Y n c w a)
+      address-same : (c : Instruction) (w a : ℕ) → isAccess c ≡ true → In (page a) (reached S) → a % 4 ≡ ea c (registersOf b) w % 4 → Same (onAddress X io m c w a) (onAddress X io′ n c w a)
       unfolding onAddress
       address-same c w a x h q =
           same-ask (test (not (avoidsPorts c && isPort a)) ∷ test (not (hasHazard (stores b) c a)) ∷ []) _ _
@@ -196,67 +179,67 @@ module _ (S : Pages) (L : Low S) (b : List ℕ) (G : Good S b) where
           (if-same (suppressed (causes X c w false)) _ _ _ _ (λ _. refl)
           (λ e. performed-same c w (causes X c w false) a x h (aligned-fits a (d c) (access-aligned c (registersOf b) w a (isEvent (X .eev)) false x e q)))))
 
-      data-same : (wR : Walk) (c : Instruction) (w : ℕ) (f : Faulting) → isAccess c ≡ true → among wR (walks b) ≡ true → Same (onData X m wR c w f) (onData Y n wR c w f)
+      data-same : (wR : Walk) (c : Instruction) (w : ℕ) (f : Faulting) → isAccess c ≡ true → among wR (walks b) ≡ true → Same (onData X io m wR c w f) (onData X io′ n wR c w f)
       unfolding onData
       data-same wR c w Passes x h =
           same-test (not (user (registersOf b)) || complete wR) _ _
           (λ e. let k = complete-page S wR (held-ok wR h) (guard-complete (user (registersOf b)) (complete wR) U e) in
-          rw (user-address wR (ea c (registersOf b) w) s i)
+          rw (user-address wR (ea c (registersOf b) w))
           (address-same c w (walkBa wR * 2 ^ 12 + ea c (registersOf b) w % 2 ^ 12) x
           (subst (λ (p : ℕ). In p (reached S)) (sym (join-page (walkBa wR) (ea c (registersOf b) w))) (data-reached S (walkBa wR) (k .0)))
           (omega arith)))
       data-same wR c w Faults x h = same-refl _
       data-same wR c w Undecided x h = same-refl _
 
-      access-same : (wR : Walk) (c : Instruction) (w : ℕ) → isAccess c ≡ true → Same (onAccess X m wR c w) (onAccess Y n wR c w)
+      access-same : (wR : Walk) (c : Instruction) (w : ℕ) → isAccess c ≡ true → Same (onAccess X io m wR c w) (onAccess X io′ n wR c w)
       unfolding onAccess
       access-same wR c w x =
           same-test (not (user (registersOf b)) || (among wR (walks b) && hit (dataRequestOf (registersOf b) c w) wR)) _ _
           (λ e. let h = guard-held (user (registersOf b)) (among wR (walks b)) _ U e .0 in
-          subst (λ (f : Faulting). Same (onData X m wR c w (faultOf X m (dataRequestOf (registersOf b) c w) wR)) (onData Y n wR c w f))
+          subst (λ (f : Faulting). Same (onData X io m wR c w (faultOf X m (dataRequestOf (registersOf b) c w) wR)) (onData X io′ n wR c w f))
           (verdict-same (dataRequestOf (registersOf b) c w) wR h)
           (data-same wR c w (faultOf X m (dataRequestOf (registersOf b) c w) wR) x h))
 
-      instruction-same : (wR : Walk) (c : Instruction) (w : ℕ) → Same (onInstruction X m wR c w) (onInstruction Y n wR c w)
+      instruction-same : (wR : Walk) (c : Instruction) (w : ℕ) → Same (onInstruction X io m wR c w) (onInstruction X io′ n wR c w)
       unfolding onInstruction
       instruction-same wR c w =
           same-ask (test (findsBuffer (stores b) c) ∷ []) _ _ (λ _. same-if (isAccess c) _ _ _ _ (λ e. access-same wR c w e) (λ _. same-refl (yield (withoutAccess X c w))))
 
-      word-on : (wR : Walk) (r : Read) → Same (onWord X m wR r) (onWord Y n wR r)
+      word-on : (wR : Walk) (r : Read) → Same (onWord X io m wR r) (onWord X io′ n wR r)
       unfolding onWord
       word-on wR (There w) = instruction-same wR (decoded w) w
       word-on wR Nowhere = same-refl _
 
-      fetched-same : (wR : Walk) (a : ℕ) → In (page a) (reached S) → a % 4 ≡ 0 → Same (onFetchAddress X m wR a) (onFetchAddress Y n wR a)
+      fetched-same : (wR : Walk) (a : ℕ) → In (page a) (reached S) → a % 4 ≡ 0 → Same (onFetchAddress X io m wR a) (onFetchAddress X io′ n wR a)
       unfolding onFetchAddress
       fetched-same wR a h q =
           same-ask (test (not (isPort a)) ∷ []) _ _
-          (λ _. subst (λ (r : Read). Same (onWord X m wR (reads 4 (memoryByte m) a)) (onWord Y n wR r))
+          (λ _. subst (λ (r : Read). Same (onWord X io m wR (reads 4 (memoryByte m) a)) (onWord X io′ n wR r))
           (word-same S L m n A a 4 h (aligned-fits a 4 (word-aligned a q)))
           (word-on wR (reads 4 (memoryByte m) a)))
 
-      fetch-on : (wI wR : Walk) (f : Faulting) → among wI (walks b) ≡ true → registersOf b .pc % 4 ≡ 0 → Same (onFetch X m wI wR f) (onFetch Y n wI wR f)
+      fetch-on : (wI wR : Walk) (f : Faulting) → among wI (walks b) ≡ true → registersOf b .pc % 4 ≡ 0 → Same (onFetch X io m wI wR f) (onFetch X io′ n wI wR f)
       unfolding onFetch
       fetch-on wI wR Passes h q =
           same-test (not (user (registersOf b)) || complete wI) _ _
           (λ e. let k = complete-page S wI (held-ok wI h) (guard-complete (user (registersOf b)) (complete wI) U e) in
-          rw (user-address wI (registersOf b .pc) s i)
+          rw (user-address wI (registersOf b .pc))
           (fetched-same wR (walkBa wI * 2 ^ 12 + registersOf b .pc % 2 ^ 12)
           (subst (λ (p : ℕ). In p (reached S)) (sym (join-page (walkBa wI) (registersOf b .pc))) (data-reached S (walkBa wI) (k .0)))
           (omega arith)))
       fetch-on wI wR Faults h q = same-refl _
       fetch-on wI wR Undecided h q = same-refl _
 
-      fetch-same : (wI wR : Walk) → registersOf b .pc % 4 ≡ 0 → Same (fetch X m wI wR) (fetch Y n wI wR)
+      fetch-same : (wI wR : Walk) → registersOf b .pc % 4 ≡ 0 → Same (fetch X io m wI wR) (fetch X io′ n wI wR)
       unfolding fetch
       fetch-same wI wR q =
           same-test (not (user (registersOf b)) || (among wI (walks b) && hit (fetchRequestOf (registersOf b)) wI)) _ _
           (λ e. let h = guard-held (user (registersOf b)) (among wI (walks b)) _ U e .0 in
-          subst (λ (f : Faulting). Same (onFetch X m wI wR (faultOf X m (fetchRequestOf (registersOf b)) wI)) (onFetch Y n wI wR f))
+          subst (λ (f : Faulting). Same (onFetch X io m wI wR (faultOf X m (fetchRequestOf (registersOf b)) wI)) (onFetch X io′ n wI wR f))
           (verdict-same (fetchRequestOf (registersOf b)) wI h)
           (fetch-on wI wR (faultOf X m (fetchRequestOf (registersOf b)) wI) h q))
 
-      core-same : (wI wR : Walk) → corePlan X m wI wR ≡ corePlan Y n wI wR
+      core-same : (wI wR : Walk) → corePlan X io m wI wR ≡ corePlan X io′ n wI wR
       unfolding corePlan judged
       core-same wI wR =
           settle-same refused _ _
@@ -287,7 +270,7 @@ module _ (S : Pages) (L : Low S) (b : List ℕ) (G : Good S b) where
           = inside-same (reached S) m n A (x .address) (x .width) (writable-reached S (page (x .address)) (h .0 .writable)) (h .0 .fits) in
           rw p
 
-      pub plan-same : {k : ℕ} {x : Step} (o : Plain k x) → planOf o b s i m ≡ planOf o b s′ i′ n
+      pub plan-same : {k : ℕ} {x : Step} (o : Plain k x) → planOf o b io m ≡ planOf o b io′ n
       plan-same (plans.runs v w) = core-same v w
       plan-same (plans.create va l) = refl
       plan-same (plans.extend w) = ap (planned (walks b) (isFree b)) (extend-same w)

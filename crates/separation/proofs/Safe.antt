@@ -26,7 +26,7 @@ use Rattle.records.specs.declared.Store.{Store}
 use Rattle.records.specs.declared.Flush.the-variants.{All, Incomplete}
 use Rattle.records.specs.Records.{stores, walks, among}
 use Rattle.records.specs.Contents.{allThere}
-use Rattle.tables.specs.Views.{registersOf}
+use Rattle.tables.specs.Views.{registersOf, userMode, runs, asidOf}
 use Rattle.tlb.specs.declared.Entry.{Entry}
 use Rattle.tlb.specs.declared.Entry.the-variants.{Word, Missing}
 use Rattle.tlb.specs.declared.Decision.{Decision}
@@ -34,7 +34,7 @@ use Rattle.tlb.specs.declared.Decision.the-variants as decision
 use Rattle.tlb.specs.declared.Faulting.{Faulting}
 use Rattle.tlb.specs.declared.Faulting.the-variants.{Faults, Passes, Undecided}
 use Rattle.tlb.specs.Walks.{baseAddress, pageKey, walkVa, walkAsid, walkLevel, walkR, walkBa, index, pteaAt, entryAt, pteA, pteP, pteR, pteBa, wextFault, complete, hit, suffices, storeR, loadR, pte, ptea, winit, wext, set-d}
-use Rattle.tlb.specs.Steps.{userMode, runs, asidOf, originOf, extendable, onExtend, tlbExtend, onAccessed, tlbAccessed, tlbCreate, createOn, extendOn, accessedOn}
+use Rattle.tlb.specs.Steps.{originOf, extendable, onExtend, tlbExtend, onAccessed, tlbAccessed, tlbCreate, createOn, extendOn, accessedOn}
 use Rattle.tlb.proofs.Fields.{Fields, winit-fields, wext-fields, wext-present, first-lt, incomplete-level, index-lt, ptea-aligned}
 use Rattle.tlb.proofs.Steps.{entry-word, create-adds, Extended, extend-adds, Marked, accessed-marks, is-held, is-incomplete}
 use Rattle.store_buffer.specs.declared.Read.{Read}
@@ -47,7 +47,8 @@ use Rattle.store_buffer.specs.System.{isPort, memoryByte, reads, loaded}
 use Rattle.steps.specs.declared.Answer.the-variants.{Done, Refused}
 use Rattle.steps.specs.declared.Step.{Step}
 use Rattle.cores.specs.Guards.{test}
-use Rattle.cores.specs.Core.{View, viewOf, isEvent, causes, suppressed, stopped, causesWithout, faulted, faultOf, physical, onLoad, onStore, onCas, exchanged, storedFrom, performed, droppedBy, isAccess, avoidsPorts, hasHazard, onAddress, onData, onAccess, onInstruction, findsBuffer, dataRequestOf, fetchRequestOf, onWord, onFetchAddress, onFetch, fetch, judged, corePlan, isFree, withoutAccess}
+use Rattle.cores.specs.Core.{View, viewOf, isEvent, causes, suppressed, stopped, causesWithout, faulted, faultOf, physical, onLoad, onStore, onCas, exchanged, storedFrom, performed, droppedBy, isAccess, avoidsPorts, hasHazard, onAddress, onData, onAccess, onInstruction, findsBuffer, dataRequestOf, fetchRequestOf, onWord, onFetchAddress, onFetch, fetch, judged, corePlan, isFree, withoutAccess, portsBeside}
+use Rattle.cores.specs.declared.IoPorts.{IoPorts}
 use Rattle.cores.specs.declared.CoreChange.the-variants as change
 use Rattle.cores.specs.declared.BufferChange.{BufferChange}
 use Rattle.cores.specs.declared.BufferChange.the-variants.{Put, Take}
@@ -57,8 +58,8 @@ use Rattle.cores.specs.declared.Write.{Write}
 use Rattle.cores.specs.declared.Write.the-variants.{Memory}
 use Rattle.cores.specs.declared.Plan.{Plan}
 use Rattle.cores.specs.Plans.{refused, done, interrupted, changed, finished}
-use Rattle.cores.specs.Walks.{adding, planned}
-use Rattle.cores.specs.Buffer.{leavesTo, onOldest, bufferStep}
+use Rattle.cores.specs.TlbSteps.{adding, planned}
+use Rattle.cores.specs.BufferStep.{leavesTo, onOldest, bufferStep}
 use Rattle.cores.specs.Commit.{writtenTo}
 use Rattle.cores.proofs.Sounds.{registersAfter}
 use Rattle.cores.proofs.Accesses.{access-aligned, cas-width}
@@ -155,9 +156,9 @@ module _ (S : Pages) (L : Low S) (m b : List ℕ) (bs : Bytes m) (G : Good S b) 
   U : user (registersOf b) ≡ true
   U = view-user S b G
 
-  module _ (s i : ℕ) where
+  module _ (io : IoPorts) where
     abbrev X : View
-    X = viewOf b s i
+    X = viewOf b
 
     kind-kept : (c : Instruction) (w : ℕ) (pfls : Bool) → jisr (causes X c w pfls) ≡ false → movg2s c || eret c ≡ false
     kind-kept c w pfls j = not-special c (no-privilege c (registersOf b) w (isEvent (X .eev)) pfls U j)
@@ -183,15 +184,15 @@ module _ (S : Pages) (L : Low S) (m b : List ℕ) (bs : Bytes m) (G : Good S b) 
           (λ _. unfold writtenTo in put-free (tablePages S) (S .writables) 4 m a (gprAt (registersOf b) (rt w)) (λ j p q. subst (λ (y : ℕ). In y (S .writables)) (sym (same-page a 4 j f p q)) h))
           (λ _. quietly))
 
-      performed-safe : (a : ℕ) → isAccess c ≡ true → (store c || cas c ≡ true → In (page a) (S .writables)) → Fits a (d c) → Safe S m b (performed X m c w (causes X c w false) a)
+      performed-safe : (a : ℕ) → isAccess c ≡ true → (store c || cas c ≡ true → In (page a) (S .writables)) → Fits a (d c) → Safe S m b (performed X io m c w (causes X c w false) a)
       unfolding performed
       performed-safe a x h f =
-          if-both (Safe S m b) (load c) _ _ (λ _. load-safe (loaded (stores b) (X .ports) m a (d c)))
+          if-both (Safe S m b) (load c) _ _ (λ _. load-safe (loaded (stores b) (portsBeside X io) m a (d c)))
           (λ e. if-both (Safe S m b) (store c) _ _
           (λ g. store-safe (storedFrom (registersOf b) c w a) (allThere (d c) (length m) a) (record { writable = h (or-first (store c) (cas c) g); fits = f }))
           (λ g. cas-safe a (reads 4 (memoryByte m) a) (h (⊎-elim (λ y. clash (load c) y e) (λ y. y) (or-cases (load c) _ x))) (subst (λ (k : ℕ). Fits a k) (cas-width c x e g) f)))
 
-      address-safe : (a : ℕ) → isAccess c ≡ true → (store c || cas c ≡ true → In (page a) (S .writables)) → a % 4 ≡ ea c (registersOf b) w % 4 → Judges (Safe S m b) (onAddress X m c w a)
+      address-safe : (a : ℕ) → isAccess c ≡ true → (store c || cas c ≡ true → In (page a) (S .writables)) → a % 4 ≡ ea c (registersOf b) w % 4 → Judges (Safe S m b) (onAddress X io m c w a)
       unfolding onAddress
       address-safe a x h q =
           judges-ask (Safe S m b) (test (not (avoidsPorts c && isPort a)) ∷ test (not (hasHazard (stores b) c a)) ∷ []) _
@@ -199,12 +200,12 @@ module _ (S : Pages) (L : Low S) (m b : List ℕ) (bs : Bytes m) (G : Good S b) 
           (if-both (Safe S m b) (suppressed (causes X c w false)) _ _ (λ _. stopped-safe X w _ WalkChange.Nothing tt)
           (λ e. performed-safe a x h (aligned-fits a (d c) (access-aligned c (registersOf b) w a (isEvent (X .eev)) false x e q)))))
 
-      data-safe : (wR : Walk) (f : Faulting) → isAccess c ≡ true → among wR (walks b) ≡ true → hit (dataRequestOf (registersOf b) c w) wR ≡ true → Judges (Safe S m b) (onData X m wR c w f)
+      data-safe : (wR : Walk) (f : Faulting) → isAccess c ≡ true → among wR (walks b) ≡ true → hit (dataRequestOf (registersOf b) c w) wR ≡ true → Judges (Safe S m b) (onData X io m wR c w f)
       unfolding onData
       data-safe wR Passes x h k =
           judges-test (Safe S m b) (not (user (registersOf b)) || complete wR) _
           (λ e. let p = complete-page S wR (held-ok S L b G wR h) (guard-complete (user (registersOf b)) (complete wR) U e) in
-          rw (user-address S L b G wR (ea c (registersOf b) w) s i)
+          rw (user-address S L b G wR (ea c (registersOf b) w))
           (address-safe (walkBa wR * 2 ^ 12 + ea c (registersOf b) w % 2 ^ 12) x
           (λ t. subst (λ (y : ℕ). In y (S .writables)) (sym (join-page (walkBa wR) (ea c (registersOf b) w))) (p .1 (granted t)))
           (omega arith)))
@@ -219,7 +220,7 @@ module _ (S : Pages) (L : Low S) (m b : List ℕ) (bs : Bytes m) (G : Good S b) 
       data-safe wR Faults x h k = judges-yield (Safe S m b) _ (stopped-safe X w (causes X c w true) (faulted (registersOf b) (ea c (registersOf b) w)) tt)
       data-safe wR Undecided x h k = record { met = λ _. refused-safe 7 }
 
-      access-safe : (wR : Walk) → isAccess c ≡ true → Judges (Safe S m b) (onAccess X m wR c w)
+      access-safe : (wR : Walk) → isAccess c ≡ true → Judges (Safe S m b) (onAccess X io m wR c w)
       unfolding onAccess
       access-safe wR x =
           judges-test (Safe S m b) (not (user (registersOf b)) || (among wR (walks b) && hit (dataRequestOf (registersOf b) c w) wR)) _
@@ -239,18 +240,18 @@ module _ (S : Pages) (L : Low S) (m b : List ℕ) (bs : Bytes m) (G : Good S b) 
               go false true = tt
               go false false = tt
 
-      instruction-safe : (wR : Walk) → Judges (Safe S m b) (onInstruction X m wR c w)
+      instruction-safe : (wR : Walk) → Judges (Safe S m b) (onInstruction X io m wR c w)
       unfolding onInstruction
       instruction-safe wR =
           judges-ask (Safe S m b) (test (findsBuffer (stores b) c) ∷ []) _
           (λ _. judges-if (Safe S m b) (isAccess c) _ _ (λ e. access-safe wR e) (λ _. judges-yield (Safe S m b) (withoutAccess X c w) without-safe))
 
-    word-safe : (wR : Walk) (r : Read) → Judges (Safe S m b) (onWord X m wR r)
+    word-safe : (wR : Walk) (r : Read) → Judges (Safe S m b) (onWord X io m wR r)
     unfolding onWord
     word-safe wR (There w) = instruction-safe (decoded w) w wR
     word-safe wR Nowhere = record { met = λ _. refused-safe 7 }
 
-    fetch-safe : (wI wR : Walk) (f : Faulting) → Judges (Safe S m b) (onFetch X m wI wR f)
+    fetch-safe : (wI wR : Walk) (f : Faulting) → Judges (Safe S m b) (onFetch X io m wI wR f)
     unfolding onFetch onFetchAddress
     fetch-safe wI wR Passes =
         judges-test (Safe S m b) (not (user (registersOf b)) || complete wI) _
@@ -258,7 +259,7 @@ module _ (S : Pages) (L : Low S) (m b : List ℕ) (bs : Bytes m) (G : Good S b) 
     fetch-safe wI wR Faults = judges-yield (Safe S m b) _ (stopped-safe X 0 (causesWithout X false true) (faulted (registersOf b) (registersOf b .pc)) tt)
     fetch-safe wI wR Undecided = record { met = λ _. refused-safe 7 }
 
-    core-safe : (wI wR : Walk) → Safe S m b (corePlan X m wI wR)
+    core-safe : (wI wR : Walk) → Safe S m b (corePlan X io m wI wR)
     unfolding corePlan judged fetch
     core-safe wI wR =
         judges-settle (Safe S m b) refused _ refused-safe
@@ -400,10 +401,10 @@ module _ (S : Pages) (L : Low S) (m b : List ℕ) (bs : Bytes m) (G : Good S b) 
             }
         go false = unfold leavesTo in refused-safe 7
 
-    pub plan-safe : {k : ℕ} {x : Step} (o : Plain k x) (s i : ℕ) → Safe S m b (planOf o b s i m)
-    plan-safe (plans.runs v w) s i = core-safe s i v w
-    plan-safe (plans.create va l) s i = create-safe va l
-    plan-safe (plans.extend w) s i = extend-safe w
-    plan-safe (plans.accessed w) s i = accessed-safe w
-    plan-safe plans.drain s i = drain-safe (stores b) (G .pending)
-    plan-safe plans.none s i = refused-safe 5
+    pub plan-safe : {k : ℕ} {x : Step} (o : Plain k x) (io : IoPorts) → Safe S m b (planOf o b io m)
+    plan-safe (plans.runs v w) io = core-safe io v w
+    plan-safe (plans.create va l) io = create-safe va l
+    plan-safe (plans.extend w) io = extend-safe w
+    plan-safe (plans.accessed w) io = accessed-safe w
+    plan-safe plans.drain io = drain-safe (stores b) (G .pending)
+    plan-safe plans.none io = refused-safe 5

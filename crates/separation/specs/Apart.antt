@@ -1,15 +1,14 @@
 -- The operation Apart (01).
 -- Assumes nothing.
-use mathlib.Core.Bool.{Bool, true, false, _&&_, not}
+use mathlib.Core.Bool.{Bool, _&&_, not}
 use mathlib.Core.List.{List, _++_}
 use Prim.Native.Nat.{ℕ, _+_}
 use lib.ListN.{length}
 use Rattle.word.specs.Word.{if_then_else_, isSet}
 use Rattle.layout.specs.Blocks.{block}
 use Rattle.records.specs.Records.{all}
-use Rattle.tables.specs.Views.{coresOf, pagesOf}
+use Rattle.tables.specs.Views.{coresOf, pagesOf, userMode, runs}
 use Rattle.tables.specs.Sound.{sound}
-use Rattle.tlb.specs.Steps.{userMode, runs}
 use Rattle.reach.specs.Lists.{range, has, select}
 use Rattle.reach.specs.Reach.{Pages, isGroup, members, reach, tablePages, reached, inMemory}
 use Rattle.separation.specs.declared.Verdict.{Verdict}

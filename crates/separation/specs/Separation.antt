@@ -10,9 +10,8 @@ use lib.ListN.{length, getD, take, drop}
 use Rattle.word.specs.Word.{if_then_else_, isSet}
 use Rattle.layout.specs.Layout.{pageBytes}
 use Rattle.layout.specs.Blocks.{block}
-use Rattle.tables.specs.Views.{coresOf, pagesOf}
+use Rattle.tables.specs.Views.{coresOf, pagesOf, userMode}
 use Rattle.tlb.specs.Walks.{set-d}
-use Rattle.tlb.specs.Steps.{userMode}
 use Rattle.steps.specs.declared.Answer.{Answer}
 use Rattle.steps.specs.declared.Answer.the-variants.{Done, Interrupt, Refused}
 use Rattle.steps.specs.Form.{word}

@@ -28,7 +28,7 @@ pub fn rest(t: &[u32], group: u32) -> u32
     let mut r: u32 = 0;
     let mut k: u32 = 0;
     while k < cores {
-        let other = !is_member(group, k) & tlb::runs(layout::block(t, k));
+        let other = !is_member(group, k) & tables::block::runs(layout::block(t, k));
         r = word::put_bit(r, k, other as u32);
         k += 1;
     }
@@ -42,8 +42,8 @@ fn passes(t: &[u32], group: u32, k: u32) -> bool
 {
     let member = is_member(group, k);
     let b = layout::block(t, k);
-    let running = tlb::runs(b);
-    let user = tlb::user_mode(b);
+    let running = tables::block::runs(b);
+    let user = tables::block::user(b);
     !(member | running) | (running & user)
 }
 

@@ -8,3 +8,4 @@ pub mod Places
 pub mod Steps
 pub mod Bank
 pub mod Words
+pub mod Shown

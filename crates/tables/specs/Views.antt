@@ -2,10 +2,13 @@
 -- The pending stores and walks of a block are views of the crate records.
 -- Assumes nothing.
 use Prim.Native.Nat.{ℕ, _+_, _/_, _%_, _^_}
+use mathlib.Core.Bool.{Bool}
 use mathlib.Core.List.{List, _∷_, _++_}
+use lib.Dec.{eqb}
 use lib.ListN.{getD, take, drop}
 use Rattle.layout.specs.Layout as at
 use Rattle.isa.specs.declared.registers.Registers.{Registers}
+use Rattle.isa.specs.Interrupts.{user, asid}
 
 -- ---- the header
 
@@ -43,7 +46,21 @@ withRegisters b r = r .gpr ++ (r .spr ++ (r .pc ∷ r .hi ∷ r .lo ∷ drop at.
 abbrev pub runningOf : List ℕ → ℕ
 runningOf b = getD b at.running 0
 
+abbrev pub runs : List ℕ → Bool
+runs b = eqb (runningOf b) 1
+
+-- user mode and the address space of a block's core
+abbrev pub userMode : List ℕ → Bool
+userMode b = user (registersOf b)
+
+abbrev pub asidOf : List ℕ → ℕ
+asidOf b = asid (registersOf b)
+
 -- ---- the local APIC of a block
+
+-- the words of its 128 port bytes
+abbrev pub portWordsOf : List ℕ → List ℕ
+portWordsOf b = take 32 (drop at.ports b)
 
 -- port byte i, low byte first
 abbrev pub portByte : List ℕ → ℕ → ℕ

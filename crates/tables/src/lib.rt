@@ -1,4 +1,5 @@
 // The machine in lent memory: whether the tables are sound (specs/Sound.antt), the registers of a block, and Make.
+pub mod block;
 pub mod make;
 pub mod registers;
 

@@ -3,11 +3,9 @@
 use mathlib.Core.Path.{_≡_, sym, ap, _∙_}
 use mathlib.Core.Bool.{Bool, true, false, not, _&&_}
 use mathlib.Core.List.{List}
-use Prim.Native.Nat.{ℕ, _/_, _%_, _^_}
-use native.Mathlib.Omega.{arith}
+use Prim.Native.Nat.{ℕ}
 use lib.Dec.{eqb}
 use borrow.Author.Tests.{not-true}
-use Rattle.word.specs.Word.{isSet}
 use Rattle.word.proofs.Truth.{and-left, and-right}
 use Rattle.records.specs.declared.Walk.{Walk}
 use Rattle.records.specs.Records.{among}
@@ -16,10 +14,6 @@ use Rattle.tlb.specs.declared.Entry.the-variants.{Word, Missing}
 use Rattle.tlb.specs.declared.Decision.the-variants.{Refused, Adds, Marks}
 use Rattle.tlb.specs.Walks.{complete, walkAsid, pteA, pteP, ptea, wext, wextFault, winit, set-d}
 use Rattle.tlb.specs.Steps.{tlbCreate, tlbExtend, tlbAccessed, extendable, onExtend, onAccessed}
-
--- bit 0 of a word
-pub low-bit : (n : ℕ) → eqb (n % 2) 1 ≡ isSet n 0
-low-bit n = let e : n % 2 ≡ n / 2 ^ 0 % 2 = omega arith in ap (λ (k : ℕ). eqb k 1) e
 
 -- two tests of a step's guards, as the code has them
 module _ {u s : Bool} (p q : Bool) (e : p ≡ u) (f : q ≡ s) where

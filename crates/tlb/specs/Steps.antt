@@ -1,16 +1,16 @@
 -- What the TLB's own steps decide and do (the report, 11.3: tlb-create, tlb-extend, tlb-set-accessed). A guard that is decided and fails is
 -- refusal 6; where none fails and the entry that one needs is not in memory, 7.
 -- Assumes nothing.
-use mathlib.Core.Bool.{Bool, true, _&&_, not}
+use mathlib.Core.Bool.{Bool, _&&_, not}
 use mathlib.Core.List.{List}
-use Prim.Native.Nat.{ℕ, _+_, _%_, _^_}
-use lib.ListN.{length, getD}
-use lib.Dec.{eqb, leb}
-use Rattle.word.specs.Word.{if_then_else_, isSet}
-use Rattle.word.specs.Bytes.{put}
-use Rattle.layout.specs.Layout.{spr, mode, asid, pto, running}
+use Prim.Native.Nat.{ℕ, _+_}
+use lib.ListN.{getD}
+use lib.Dec.{eqb}
+use Rattle.word.specs.Word.{if_then_else_}
+use Rattle.layout.specs.Layout.{spr, pto}
 use Rattle.records.specs.declared.Walk.{Walk}
-use Rattle.records.specs.Records.{among, walks, addWalk}
+use Rattle.records.specs.Records.{among, walks}
+use Rattle.tables.specs.Views.{runs, userMode, asidOf}
 use Rattle.tlb.specs.declared.Entry.{Entry}
 use Rattle.tlb.specs.declared.Entry.the-variants.{Word, Missing}
 use Rattle.tlb.specs.declared.Decision.{Decision}
@@ -19,17 +19,7 @@ use Rattle.tlb.specs.Walks.{walkAsid, baseAddress, pteA, pteP, ptea, pte
 
 -- ---- a core's block
 
--- user mode is bit 0 of the mode register
-abbrev pub userMode : List ℕ → Bool
-userMode b = isSet (getD b (spr + mode) 0) 0
-
-abbrev pub runs : List ℕ → Bool
-runs b = eqb (getD b running 0) 1
-
--- the address space: bits 5 to 0 of its register; the page table origin's page
-abbrev pub asidOf : List ℕ → ℕ
-asidOf b = getD b (spr + asid) 0 % 2 ^ 6
-
+-- the page table origin's page
 abbrev pub originOf : List ℕ → ℕ
 originOf b = baseAddress (getD b (spr + pto) 0)
 

@@ -1,15 +1,14 @@
 // Walks and page table entries (specs/Walks.antt), and what the TLB's own steps decide and do (specs/Steps.antt).
-use layout::ASID;
-use layout::MODE;
 use layout::PTO;
-use layout::RUNNING;
 use layout::SPR;
 use records::Walk;
+use tables::block;
 ghost use mathlib.Core.Path.{_≡_};
 ghost use mathlib.Core.Bool.{Bool, true, false};
 ghost use Prim.Native.Nat.{ℕ, _+_, _*_, _<_, _≤_, _^_};
 ghost use lib.ListN.{length};
 ghost use Rattle.records.specs.Records.{linked, walks};
+ghost use Rattle.tables.specs.Views.{asidOf};
 ghost use Rattle.tlb.specs.Walks as x;
 ghost use Rattle.tlb.specs.Steps as y;
 
@@ -224,29 +223,7 @@ pub enum Decision {
     Marks(u32, u32),
 }
 
-// What a core's block says: user mode, whether the core runs, the address space and the page table origin.
-
-pub fn user_mode(b: &[u32]) -> bool
-    requires { ⌜ length (now b) ≡ 256 ⌝ }
-    ensures { λ r. ⌜ r ≡ y.userMode (now (b .entry)) ⌝ }
-{
-    b[SPR + MODE] % 2 == 1
-}
-
-pub fn runs(b: &[u32]) -> bool
-    requires { ⌜ length (now b) ≡ 256 ⌝ }
-    ensures { λ r. ⌜ r ≡ y.runs (now (b .entry)) ⌝ }
-{
-    b[RUNNING] == 1
-}
-
-pub fn address_space(b: &[u32]) -> u32
-    requires { ⌜ length (now b) ≡ 256 ⌝ }
-    ensures { λ r. ⌜ r ≡ y.asidOf (now (b .entry)) ⌝ }
-{
-    b[SPR + ASID] % 64
-}
-
+// The page table origin of a core's block.
 pub fn origin(b: &[u32]) -> u32
     requires { ⌜ length (now b) ≡ 256 ⌝ }
     ensures { λ r. ⌜ r ≡ y.originOf (now (b .entry)) ⌝ }
@@ -260,8 +237,8 @@ pub fn create(b: &[u32], va: u32) -> Decision
     requires { ⌜ va < 2 ^ 20 ⌝ }
     ensures { λ r. ⌜ r ≡ y.createOn (now (b .entry)) va ⌝ }
 {
-    if user_mode(b) & runs(b) {
-        return Decision::Adds(winit(va, origin(b), address_space(b)));
+    if block::user(b) & block::runs(b) {
+        return Decision::Adds(winit(va, origin(b), block::asid(b)));
     }
     Decision::Refused(6)
 }
@@ -270,9 +247,9 @@ pub fn create(b: &[u32], va: u32) -> Decision
 fn extendable(b: &[u32], w: Walk) -> bool
     requires { ⌜ length (now b) ≡ 256 ⌝ }
     requires { ⌜ linked (now b) ≡ true ⌝ }
-    ensures { λ r. ⌜ r ≡ y.extendable (y.asidOf (now (b .entry))) (walks (now (b .entry))) w ⌝ }
+    ensures { λ r. ⌜ r ≡ y.extendable (asidOf (now (b .entry))) (walks (now (b .entry))) w ⌝ }
 {
-    records::holds_walk(b, w) & (!complete(w) & (asid(w) == address_space(b)))
+    records::holds_walk(b, w) & (!complete(w) & (asid(w) == block::asid(b)))
 }
 
 fn on_extend(w: Walk, e: Entry) -> Decision
@@ -296,7 +273,7 @@ pub fn extend(b: &[u32], m: &[u8], w: Walk) -> Decision
     requires { ⌜ linked (now b) ≡ true ⌝ }
     ensures { λ r. ⌜ r ≡ y.extendOn (now (b .entry)) (now (m .entry)) w ⌝ }
 {
-    if runs(b) & extendable(b, w) {
+    if block::runs(b) & extendable(b, w) {
         return on_extend(w, pte(m, w));
     }
     Decision::Refused(6)
@@ -322,7 +299,7 @@ pub fn accessed(b: &[u32], m: &[u8], w: Walk) -> Decision
     requires { ⌜ linked (now b) ≡ true ⌝ }
     ensures { λ r. ⌜ r ≡ y.accessedOn (now (b .entry)) (now (m .entry)) w ⌝ }
 {
-    if user_mode(b) & extendable(b, w) {
+    if block::user(b) & extendable(b, w) {
         return on_accessed(w, pte(m, w));
     }
     Decision::Refused(6)

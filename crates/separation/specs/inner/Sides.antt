@@ -7,7 +7,7 @@ use Prim.Native.Nat.{ℕ}
 use lib.Dec.{eqb}
 use Rattle.word.specs.Word.{isSet}
 use Rattle.layout.specs.Blocks.{block}
-use Rattle.tlb.specs.Steps.{runs}
+use Rattle.tables.specs.Views.{runs}
 use Rattle.separation.specs.Apart.{runsAsUser}
 
 -- core k is of neither side, or it is running in user mode

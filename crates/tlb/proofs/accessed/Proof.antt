@@ -7,8 +7,8 @@ use borrow.Author.Needs.{needs}
 use Rattle.tlb.proofs.accessed.Statement.{statement}
 use Rattle.tlb.proofs.accessed.Tie as tie
 
-user-mode-requires : tie.Need-user-mode-requires
-user-mode-requires c κs = search needs
+user-requires : tie.Need-user-requires
+user-requires c κs = search needs
 
 extendable-requires : tie.Need-extendable-requires
 extendable-requires c κs = search needs
@@ -20,16 +20,16 @@ on-accessed-requires : tie.Need-on-accessed-requires
 on-accessed-requires c κs = search needs
 
 returns : tie.Need-returns
-returns c = c .on-accessed .ensures ∙ ap (onAccessed _) (c .before .pte .ensures) ∙ accesses _ _ _ _ _ (both _ _ (c .before .before .before .before .user-mode .ensures) (c .before .before .before .extendable .ensures) (c .before .before .if1 .taken))
+returns c = c .on-accessed .ensures ∙ ap (onAccessed _) (c .before .pte .ensures) ∙ accesses _ _ _ _ _ (both _ _ (c .before .before .before .before .user .ensures) (c .before .before .before .extendable .ensures) (c .before .before .if1 .taken))
 
 returns-2 : tie.Need-returns-2
-returns-2 c = not-accesses _ _ _ _ _ (both _ _ (c .before .before .user-mode .ensures) (c .before .extendable .ensures) (c .if1 .left))
+returns-2 c = not-accesses _ _ _ _ _ (both _ _ (c .before .before .user .ensures) (c .before .extendable .ensures) (c .if1 .left))
 
 pub accessed-spec : {M : Type 1} → statement M
 accessed-spec =
     tie.close
     (tie.spec
-    user-mode-requires
+    user-requires
     extendable-requires
     pte-requires
     on-accessed-requires

@@ -2,7 +2,8 @@
 -- Assumes nothing.
 use mathlib.Core.Path.{ap, _∙_}
 use Rattle.records.specs.Records.{walks}
-use Rattle.tlb.specs.Steps.{runs, asidOf, onExtend}
+use Rattle.tables.specs.Views.{runs, asidOf}
+use Rattle.tlb.specs.Steps.{onExtend}
 use Rattle.tlb.proofs.Deciding.{both, extends, not-extends, open-walk}
 use borrow.Author.Needs.{needs}
 use Rattle.tlb.proofs.extend.Statement.{statement}

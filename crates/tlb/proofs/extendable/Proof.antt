@@ -15,14 +15,14 @@ complete-requires c κs = search needs
 asid-requires : tie.Need-asid-requires
 asid-requires c κs = search needs
 
-address-space-requires : tie.Need-address-space-requires
-address-space-requires c κs = search needs
+asid-requires-2 : tie.Need-asid-requires-2
+asid-requires-2 c κs = search needs
 
 returns : tie.Need-returns
 unfolding extendable
-returns c = rw (c .before .before .before .holds-walk .ensures, c .before .before .complete .ensures, c .before .asid .ensures, c .address-space .ensures)
+returns c = rw (c .before .before .before .holds-walk .ensures, c .before .before .complete .ensures, c .before .asid .ensures, c .asid2 .ensures .0)
 
 pub extendable-spec : {M : Type 1} → statement M
 extendable-spec =
     tie.close
-    (tie.spec holds-walk-requires complete-requires asid-requires address-space-requires returns)
+    (tie.spec holds-walk-requires complete-requires asid-requires asid-requires-2 returns)

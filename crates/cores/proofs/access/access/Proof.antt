@@ -21,13 +21,13 @@ data-request-requires : tie.Need-data-request-requires
 data-request-requires c κs = search needs
 
 fits-requires : tie.Need-fits-requires
-fits-requires c κs = (c .before .before .before .before .pre .0, records-linked _ _ (c .before .before .before .before .pre .1 .0))
+fits-requires c κs = (c .before .before .before .before .pre .0 .long, records-linked _ _ (c .before .before .before .before .pre .0 .records))
 
 refused-requires : tie.Need-refused-requires
 refused-requires c κs = search needs
 
 returns : tie.Need-returns
-returns c = c .refused .ensures ∙ access-unfit _ _ _ _ _ (c .before .before .fits2 .result) (rw (← (c .before .before .before .before .user .ensures), ← (c .before .before .before .data-request .ensures)) (c .before .before .fits2 .ensures)) (not-true _ (c .before .if1 .taken))
+returns c = c .refused .ensures ∙ access-unfit _ _ _ _ _ _ (c .before .before .fits2 .result) (rw (← (c .before .before .before .before .user .ensures), ← (c .before .before .before .data-request .ensures)) (c .before .before .fits2 .ensures)) (not-true _ (c .before .if1 .taken))
 
 fault-requires : tie.Need-fault-requires
 fault-requires c κs = search needs
@@ -36,13 +36,13 @@ enum-told : tie.Need-enum-told
 enum-told c = search needs
 
 passed-requires : tie.Need-passed-requires
-passed-requires c κs = (c .before .before .before .before .before .before .before .before .before .pre .0, (c .before .before .before .before .before .before .before .before .before .pre .1 .0, (c .before .before .before .before .before .before .before .before .before .pre .1 .1 .0, (c .before .before .before .before .before .before .before .before .before .pre .1 .1 .1 .0, (rw (← (c .before .before .before .before .before .before .user .ensures)) (held-base _ (now (c .before .before .before .before .before .before .before .before .before .args .b)) (c .before .before .before .before .before .before .before .before .before .args .walk) (c .before .before .before .before .before .before .user .result) (hit (c .before .before .before .before .before .data-request .result) (c .before .before .before .before .before .before .before .before .before .args .walk)) (c .before .before .before .before .before .before .before .before .before .pre .1 .0) (sym (c .before .before .before .before .fits2 .ensures) ∙ not-false _ (c .before .before .before .if1 .left))), c .before .before .before .before .before .before .before .before .before .pre .1 .1 .1 .1)))))
+passed-requires c κs = (c .before .before .before .before .before .before .before .before .before .pre .0, (c .before .before .before .before .before .before .before .before .before .pre .1 .0, (rw (← (c .before .before .before .before .before .before .user .ensures)) (held-base _ (now (c .before .before .before .before .before .before .before .before .before .args .b)) (c .before .before .before .before .before .before .before .before .before .args .walk) (c .before .before .before .before .before .before .user .result) (hit (c .before .before .before .before .before .data-request .result) (c .before .before .before .before .before .before .before .before .before .args .walk)) (c .before .before .before .before .before .before .before .before .before .pre .0 .records) (sym (c .before .before .before .before .fits2 .ensures) ∙ not-false _ (c .before .before .before .if1 .left))), c .before .before .before .before .before .before .before .before .before .pre .1 .1)))
 
 enum-told-2 : tie.Need-enum-told-2
 enum-told-2 c = search needs
 
 add-stopped : tie.Need-add-stopped
-add-stopped c = let h = with-fault-lt (viewOf (now (c .before .before .before .before .before .before .before .before .before .args .b)) (c .before .before .before .before .before .before .before .before .before .args .select) (c .before .before .before .before .before .before .before .before .before .args .window)) (c .before .before .before .before .before .before .before .before .before .args .i) (c .before .before .before .before .before .before .before .before .before .args .w) (c .before .before .before .before .before .before .before .before .before .args .ca) (c .before .before .before .before .before .before .before .before .before .pre .1 .1 .1 .1) in omega (arith, h)
+add-stopped c = let h = with-fault-lt (viewOf (now (c .before .before .before .before .before .before .before .before .before .before .args .b))) (c .before .before .before .before .before .before .before .before .before .before .args .f .instruction) (c .before .before .before .before .before .before .before .before .before .before .args .f .word) (c .before .before .before .before .before .before .before .before .before .before .args .f .causes) (c .before .before .before .before .before .before .before .before .before .before .pre .1 .1) in omega (arith, h)
 
 faulted-requires : tie.Need-faulted-requires
 faulted-requires c κs = search needs
@@ -57,13 +57,13 @@ refused-requires-2 : tie.Need-refused-requires-2
 refused-requires-2 c κs = search needs
 
 returns-2 : tie.Need-returns-2
-returns-2 c = c .passed .ensures ∙ access-fit _ _ _ _ _ (c .before .before .before .before .before .fits2 .result) Passes (rw (← (c .before .before .before .before .before .before .before .user .ensures), ← (c .before .before .before .before .before .before .data-request .ensures)) (c .before .before .before .before .before .fits2 .ensures)) (not-false _ (c .before .before .before .before .if1 .left)) (sym (c .before .enum-told .given .1) ∙ (rw (← (c .before .before .before .before .before .before .before .user .ensures), ← (c .before .before .before .before .before .before .data-request .ensures)) (c .before .before .before .fault .ensures)))
+returns-2 c = c .passed .ensures ∙ access-fit _ _ _ _ _ _ (c .before .before .before .before .before .fits2 .result) Passes (rw (← (c .before .before .before .before .before .before .before .user .ensures), ← (c .before .before .before .before .before .before .data-request .ensures)) (c .before .before .before .before .before .fits2 .ensures)) (not-false _ (c .before .before .before .before .if1 .left)) (sym (c .before .enum-told .given .1) ∙ (rw (← (c .before .before .before .before .before .before .before .user .ensures), ← (c .before .before .before .before .before .before .data-request .ensures)) (c .before .before .before .fault .ensures)))
 
 returns-3 : tie.Need-returns-3
-returns-3 c = c .stopped .ensures ∙ (rw (c .before .before .before .before .before .before .before .before .before .before .before .pre .1 .1 .1 .1, c .before .faulted .ensures, c .before .before .before .before .before .before .before .data-request .ensures, with-fault _ _ _) refl ∙ (data-faults _ _ _ _ _ ∙ access-fit _ _ _ _ _ (c .before .before .before .before .before .before .fits2 .result) Faults (rw (← (c .before .before .before .before .before .before .before .before .user .ensures), ← (c .before .before .before .before .before .before .before .data-request .ensures)) (c .before .before .before .before .before .before .fits2 .ensures)) (not-false _ (c .before .before .before .before .before .if1 .left)) (sym (c .before .before .enum-told2 .given .1) ∙ (rw (← (c .before .before .before .before .before .before .before .before .user .ensures), ← (c .before .before .before .before .before .before .before .data-request .ensures)) (c .before .before .before .before .fault .ensures)))))
+returns-3 c = c .stopped .ensures ∙ (rw (c .before .before .before .before .before .before .before .before .before .before .before .before .pre .1 .1, c .before .faulted .ensures, c .before .before .before .before .before .before .before .before .data-request .ensures, with-fault _ _ _) refl ∙ (data-faults _ _ _ _ _ _ ∙ access-fit _ _ _ _ _ _ (c .before .before .before .before .before .before .before .fits2 .result) Faults (rw (← (c .before .before .before .before .before .before .before .before .before .user .ensures), ← (c .before .before .before .before .before .before .before .before .data-request .ensures)) (c .before .before .before .before .before .before .before .fits2 .ensures)) (not-false _ (c .before .before .before .before .before .before .if1 .left)) (sym (c .before .before .before .enum-told2 .given .1) ∙ (rw (← (c .before .before .before .before .before .before .before .before .before .user .ensures), ← (c .before .before .before .before .before .before .before .before .data-request .ensures)) (c .before .before .before .before .before .fault .ensures)))))
 
 returns-4 : tie.Need-returns-4
-returns-4 c = c .refused2 .ensures ∙ (data-undecided _ _ _ _ _ ∙ access-fit _ _ _ _ _ (c .before .before .before .before .before .fits2 .result) Undecided (rw (← (c .before .before .before .before .before .before .before .user .ensures), ← (c .before .before .before .before .before .before .data-request .ensures)) (c .before .before .before .before .before .fits2 .ensures)) (not-false _ (c .before .before .before .before .if1 .left)) (sym (c .before .enum-told3 .given .1) ∙ (rw (← (c .before .before .before .before .before .before .before .user .ensures), ← (c .before .before .before .before .before .before .data-request .ensures)) (c .before .before .before .fault .ensures))))
+returns-4 c = c .refused2 .ensures ∙ (data-undecided _ _ _ _ _ _ ∙ access-fit _ _ _ _ _ _ (c .before .before .before .before .before .fits2 .result) Undecided (rw (← (c .before .before .before .before .before .before .before .user .ensures), ← (c .before .before .before .before .before .before .data-request .ensures)) (c .before .before .before .before .before .fits2 .ensures)) (not-false _ (c .before .before .before .before .if1 .left)) (sym (c .before .enum-told3 .given .1) ∙ (rw (← (c .before .before .before .before .before .before .before .user .ensures), ← (c .before .before .before .before .before .before .data-request .ensures)) (c .before .before .before .fault .ensures))))
 
 pub access-spec : {M : Type 1} → statement M
 access-spec =

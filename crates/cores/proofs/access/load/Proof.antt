@@ -7,7 +7,7 @@ width-requires : tie.Need-width-requires
 width-requires c κs = search needs
 
 load-requires : tie.Need-load-requires
-load-requires c κs = (c .before .before .before .pre .0, (c .before .before .before .pre .1 .0, rw (c .width .ensures) (c .before .before .before .pre .1 .1)))
+load-requires c κs = (c .before .before .before .pre .0 .long, (c .before .before .before .pre .0 .records, rw (c .width .ensures) (c .before .before .before .pre .1)))
 
 enum-known-l : tie.Need-enum-known-l
 enum-known-l c = search needs

@@ -3,7 +3,6 @@ use Rattle.cores.proofs.access.performed.Statement.{statement}
 use Rattle.cores.proofs.access.performed.Tie as tie
 use mathlib.Core.Path.{sym, _∙_, ap, refl, subst, _≡_}
 use Rattle.cores.specs.Core.{performed}
-use Rattle.cores.proofs.Held.{records-linked}
 use Rattle.cores.proofs.Accesses.{cas-width}
 use Rattle.store_buffer.specs.System.{aligned}
 use mathlib.Core.Bool.{true}
@@ -22,14 +21,14 @@ is-store-requires : tie.Need-is-store-requires
 is-store-requires c κs = search needs
 
 store-requires : tie.Need-store-requires
-store-requires c κs = (c .before .before .before .before .before .before .pre .0, (records-linked _ _ (c .before .before .before .before .before .before .pre .1 .0), (c .before .before .before .before .before .before .pre .1 .1 .0, c .before .before .before .before .before .before .pre .1 .1 .1 .1)))
+store-requires c κs = search needs
 
 returns-2 : tie.Need-returns-2
 unfolding performed
 returns-2 c = rw (c .store .ensures, ← (c .before .before .before .before .is-load .ensures), c .before .before .before .if1 .left, ← (c .before .before .is-store .ensures), c .before .if2 .taken) refl
 
 cas-requires : tie.Need-cas-requires
-cas-requires c κs = (c .before .before .before .before .before .before .pre .0, subst (λ n. aligned (c .before .before .before .before .before .before .args .a) n ≡ true) (cas-width (c .before .before .before .before .before .before .args .i) (c .before .before .before .before .before .before .pre .1 .1 .1 .0) (sym (c .before .before .before .is-load .ensures) ∙ c .before .before .if1 .left) (sym (c .before .is-store .ensures) ∙ c .if2 .left)) (c .before .before .before .before .before .before .pre .1 .1 .1 .1))
+cas-requires c κs = (c .before .before .before .before .before .before .pre .0 .long, subst (λ n. aligned (c .before .before .before .before .before .before .args .a) n ≡ true) (cas-width (c .before .before .before .before .before .before .args .f .instruction) (c .before .before .before .before .before .before .pre .1 .0) (sym (c .before .before .before .is-load .ensures) ∙ c .before .before .if1 .left) (sym (c .before .is-store .ensures) ∙ c .if2 .left)) (c .before .before .before .before .before .before .pre .1 .1))
 
 returns-3 : tie.Need-returns-3
 unfolding performed

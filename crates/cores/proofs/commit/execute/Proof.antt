@@ -2,6 +2,7 @@ use borrow.Author.Needs.{needs}
 use Rattle.cores.proofs.commit.execute.Statement.{statement}
 use Rattle.cores.proofs.commit.execute.Tie as tie
 use mathlib.Core.Path.{_∙_, refl}
+use Rattle.cores.specs.Commit.{coreAfter}
 
 registers-requires : tie.Need-registers-requires
 registers-requires c κs = search needs
@@ -16,6 +17,7 @@ same-length : tie.Need-same-length
 same-length c = search needs
 
 returns : tie.Need-returns
+unfolding coreAfter
 returns c = c .before .before .put-registers .ensures .0 ∙ rw (c .before .before .before .execute .ensures, c .before .before .before .before .before .registers .ensures) refl
 
 pub execute-spec : {M : Type 1} → statement M

@@ -2,6 +2,7 @@ use borrow.Author.Needs.{needs}
 use Rattle.cores.proofs.commit.return_from.Statement.{statement}
 use Rattle.cores.proofs.commit.return_from.Tie as tie
 use mathlib.Core.Path.{sym, _∙_, ap, refl}
+use Rattle.cores.specs.Commit.{coreAfter}
 
 registers-requires : tie.Need-registers-requires
 registers-requires c κs = search needs
@@ -19,6 +20,7 @@ same-length : tie.Need-same-length
 same-length c = search needs
 
 returns : tie.Need-returns
+unfolding coreAfter
 returns c = c .before .before .rfe .ensures ∙ rw (c .before .before .before .before .before .before .put-registers .ensures .0, c .before .before .before .before .before .before .before .eret .ensures, c .before .before .before .before .before .before .before .before .before .registers .ensures) refl
 
 pub return-from-spec : {M : Type 1} → statement M

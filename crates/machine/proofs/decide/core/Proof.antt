@@ -16,15 +16,15 @@ shared-slice-read-window c = search needs
 block-requires : tie.Need-block-requires
 block-requires c κs = search needs
 
-decide-requires : tie.Need-decide-requires
-decide-requires c κs =
+core-step-requires : tie.Need-core-step-requires
+core-step-requires c κs =
     let s = c .before .before .before .before .before in
-    (c .block .ensures .1, (ap (soundRecords (length (s .args .m .now))) (c .block .ensures .0) ∙ s .pre .1 .0, s .pre .1 .1))
+    record { long = c .block .ensures .1; records = ap (soundRecords (length (s .args .m .now))) (c .block .ensures .0) ∙ s .pre .1 .0; whole = s .pre .1 .1 }
 
 returns : tie.Need-returns
-returns c = rw (c .decide .ensures, c .before .block .ensures .0) refl
+returns c = rw (c .core-step .ensures, c .before .block .ensures .0) refl
 
 pub core-spec : {M : Type 1} → statement M
 core-spec =
     tie.close
-    (tie.spec shared-slice-read-select shared-slice-read-window block-requires decide-requires returns)
+    (tie.spec shared-slice-read-select shared-slice-read-window block-requires core-step-requires returns)

@@ -5,7 +5,7 @@ use mathlib.Core.Bool.{Bool, _&&_, _||_, not}
 use denote.Ref.{now}
 use Rattle.word.specs.Word.{isSet}
 use Rattle.layout.specs.Blocks.{block}
-use Rattle.tlb.specs.Steps.{runs, userMode}
+use Rattle.tables.specs.Views.{runs, userMode}
 use borrow.Author.Needs.{needs}
 use Rattle.separation.proofs.sides.passes.Statement.{statement}
 use Rattle.separation.proofs.sides.passes.Tie as tie
@@ -19,16 +19,16 @@ block-requires c κs = search needs
 runs-requires : tie.Need-runs-requires
 runs-requires c κs = search needs
 
-user-mode-requires : tie.Need-user-mode-requires
-user-mode-requires c κs = search needs
+user-requires : tie.Need-user-requires
+user-requires c κs = search needs
 
 returns : tie.Need-returns
 returns c =
     let r = c .before .runs .ensures ∙ ap runs (c .before .before .block .ensures .0) in
-    let u = c .user-mode .ensures ∙ ap userMode (c .before .before .block .ensures .0) in
-    ap₂ (λ (p q : Bool). not (p || q) || (q && c .user-mode .result)) (c .before .before .before .is-member .ensures) r
+    let u = c .user .ensures ∙ ap userMode (c .before .before .block .ensures .0) in
+    ap₂ (λ (p q : Bool). not (p || q) || (q && c .user .result)) (c .before .before .before .is-member .ensures) r
     ∙ ap (λ (q : Bool). not (isSet (c .before .before .before .before .before .args .group) (c .before .before .before .before .before .args .k) || runs (block (now (c .before .before .before .before .before .args .t)) (c .before .before .before .before .before .args .k))) || (runs (block (now (c .before .before .before .before .before .args .t)) (c .before .before .before .before .before .args .k)) && q)) u
 
 pub passes-spec : {M : Type 1} → statement M
 passes-spec =
-    tie.close (tie.spec is-member-requires block-requires runs-requires user-mode-requires returns)
+    tie.close (tie.spec is-member-requires block-requires runs-requires user-requires returns)

@@ -5,9 +5,8 @@ use mathlib.Core.Path.{_≡_, refl, sym, ap, ap₂, subst, _∙_}
 use Prim.Native.Nat.{ℕ, _≤_, _-_}
 use native.Mathlib.Omega.{arith}
 use denote.Ref.{now}
-use Rattle.tables.specs.Views.{coresOf}
+use Rattle.tables.specs.Views.{coresOf, runs}
 use Rattle.separation.proofs.Deciding.{Others, others-none, others-put, others-all, byte-small}
-use Rattle.tlb.specs.Steps.{runs}
 use Rattle.separation.proofs.sides.rest.Statement.{statement}
 use Rattle.separation.proofs.sides.rest.Tie as tie
 
