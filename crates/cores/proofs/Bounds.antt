@@ -24,7 +24,8 @@ use Rattle.cores.specs.declared.WalkChange.the-variants.{Add, Drop}
 use Rattle.cores.specs.declared.Write.{Write}
 use Rattle.cores.specs.declared.Write.the-variants.{Memory, LocalPort, IoPort}
 use Rattle.cores.specs.declared.Plan.{Plan}
-use Rattle.cores.specs.Commit.{coreAfter, bufferAfter, walksAfter, portAfter, blockAfter, headerAfter, portReady}
+use Rattle.cores.specs.Commit.{coreAfter, bufferAfter, walksAfter, portAfter, blockAfter, headerAfter}
+use Rattle.cores.specs.inner.Ready.{portReady}
 use Rattle.cores.proofs.Sounds.{storeBrought, walkBrought, planSound}
 
 -- ---- what a plan brings

@@ -30,7 +30,8 @@ use Rattle.cores.specs.declared.BufferChange.{BufferChange}
 use Rattle.cores.specs.declared.BufferChange.the-variants.{Put, Take}
 use Rattle.cores.specs.declared.WalkChange.{WalkChange}
 use Rattle.cores.specs.declared.WalkChange.the-variants.{Add, Drop}
-use Rattle.cores.specs.Commit.{coreAfter, bufferAfter, walksAfter, bufferReady, walksReady}
+use Rattle.cores.specs.Commit.{coreAfter, bufferAfter, walksAfter}
+use Rattle.cores.specs.inner.Ready.{bufferReady, walksReady}
 
 -- ---- 32 registers of each kind
 

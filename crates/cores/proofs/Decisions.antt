@@ -46,7 +46,7 @@ use Rattle.cores.specs.Plans.{refused, done}
 use Rattle.cores.specs.Core.{isFree}
 use Rattle.cores.specs.TlbSteps.{adding, planned}
 use Rattle.cores.specs.BufferStep.{leavesTo, onOldest, bufferStep}
-use Rattle.cores.specs.Commit.{bufferReady, walksReady, portReady, ready, fits}
+use Rattle.cores.specs.inner.Ready.{bufferReady, walksReady, portReady, ready, fits}
 use Rattle.cores.proofs.Sounds.{storeBrought, walkBrought, planSound}
 use Rattle.cores.proofs.Bounds.{CoreWords, AddWords, PortWords, PlanWords}
 

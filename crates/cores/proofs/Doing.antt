@@ -13,7 +13,8 @@ use Rattle.ioapic.specs.IoApic.{writes}
 use Rattle.cores.specs.declared.Write.{Write}
 use Rattle.cores.specs.declared.Write.the-variants.{Memory, LocalPort, IoPort}
 use Rattle.cores.specs.declared.Plan.{Plan}
-use Rattle.cores.specs.Commit.{coreAfter, bufferAfter, walksAfter, bufferReady, walksReady, portReady, ready, fits}
+use Rattle.cores.specs.Commit.{coreAfter, bufferAfter, walksAfter}
+use Rattle.cores.specs.inner.Ready.{bufferReady, walksReady, portReady, ready, fits}
 use Rattle.cores.proofs.Changes.{core-left, buffer-after, walks-after, buffer-asks, walks-ask}
 use Rattle.word.proofs.Truth.{and-left, and-right}
 

@@ -51,7 +51,7 @@ use Rattle.cores.specs.declared.Plan.{Plan}
 use Rattle.cores.specs.Guards.{Judged, yield, settle, anyOf, isFailure, isUndecided}
 use Rattle.cores.specs.Plans.{refused, interrupted, changed, finished}
 use Rattle.cores.specs.Core.{View, viewOf, portsBeside, causes, causesWithout, suppressed, stopped, faulted, faultOf, physical, onLoad, onStore, exchanged, onCas, storedFrom, performed, droppedBy, plain, withoutAccess, isAccess, dataRequestOf, onAddress, onData, onAccess, onInstruction, fetchRequestOf, onWord, onFetchAddress, onFetch, fetch, judged, corePlan, isEvent, vectorOf}
-use Rattle.cores.specs.Commit.{bufferReady, walksReady, portReady, fits}
+use Rattle.cores.specs.inner.Ready.{bufferReady, walksReady, portReady, fits}
 use Rattle.cores.proofs.Accesses.{access-aligned, cas-width}
 use Rattle.cores.proofs.Held.{same-offset}
 use Rattle.cores.proofs.Bounds.{CoreWords}

@@ -29,7 +29,8 @@ use Rattle.ioapic.proofs.Blocks.{block-words, withBlock-words}
 use Rattle.cores.specs.declared.Write.{Write}
 use Rattle.cores.specs.declared.Write.the-variants.{Memory, LocalPort, IoPort}
 use Rattle.cores.specs.declared.Plan.{Plan}
-use Rattle.cores.specs.Commit.{blockAfter, headerAfter, tablesByPlan, writtenTo, memoryByPlan, fits}
+use Rattle.cores.specs.Commit.{blockAfter, headerAfter, tablesByPlan, writtenTo, memoryByPlan}
+use Rattle.cores.specs.inner.Ready.{fits}
 use Rattle.cores.proofs.Doing.{port-ready}
 use Rattle.cores.proofs.Sounds.{plan-shows}
 use Rattle.cores.proofs.Bounds.{PlanWords, after-words, header-words}

@@ -42,7 +42,8 @@ use Rattle.cores.specs.declared.WalkChange.the-variants.{Add, Drop}
 use Rattle.cores.specs.declared.Write.{Write}
 use Rattle.cores.specs.declared.Write.the-variants.{Memory, LocalPort, IoPort}
 use Rattle.cores.specs.declared.Plan.{Plan}
-use Rattle.cores.specs.Commit.{coreAfter, bufferAfter, walksAfter, portAfter, blockAfter, bufferReady, walksReady, portReady, ready}
+use Rattle.cores.specs.Commit.{coreAfter, bufferAfter, walksAfter, portAfter, blockAfter}
+use Rattle.cores.specs.inner.Ready.{bufferReady, walksReady, portReady, ready}
 use Rattle.cores.proofs.Changes.{Full, effect-full, jisr-full, rfe-full, buffer-asks, walks-ask}
 use Rattle.cores.proofs.Adding.{or-other}
 

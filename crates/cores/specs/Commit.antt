@@ -1,17 +1,13 @@
 -- What a plan does to a core's block, to the tables and to memory.
 -- Assumes nothing.
-use mathlib.Core.Bool.{Bool, true, _&&_, _||_}
 use mathlib.Core.List.{List}
-use Prim.Native.Nat.{ℕ, _+_}
-use lib.Dec.{leb, ltb}
-use lib.ListN.{length}
+use Prim.Native.Nat.{ℕ}
 use Rattle.word.specs.Bytes.{put}
 use Rattle.layout.specs.Blocks.{block, withBlock}
 use Rattle.isa.specs.Core.{effect}
 use Rattle.isa.specs.Interrupts.{deltaJisr, deltaRfe}
-use Rattle.records.specs.Records.{stores, walks, among, putStore, takeStore, addWalk, dropWalks}
+use Rattle.records.specs.Records.{walks, putStore, takeStore, addWalk, dropWalks}
 use Rattle.tables.specs.Views.{registersOf, withRegisters}
-use Rattle.store_buffer.specs.System.{sized}
 use Rattle.apic.specs.LocalApic as apic
 use Rattle.ioapic.specs.IoApic as ioapic
 use Rattle.cores.specs.declared.CoreChange.{CoreChange}
@@ -72,30 +68,3 @@ writtenTo (IoPort a v) m = m
 
 abbrev pub memoryByPlan : Plan → List ℕ → List ℕ
 memoryByPlan p m = writtenTo (p .write) m
-
--- ---- what a plan asks: a place in the block's records, a port that is one, bytes in memory of n bytes
-
-unfoldable pub bufferReady : BufferChange → List ℕ → Bool
-bufferReady BufferChange.Nothing b = true
-bufferReady (Put s) b = ltb (length (stores b)) 8
-bufferReady Take b = ltb 0 (length (stores b))
-
-unfoldable pub walksReady : WalkChange → List ℕ → Bool
-walksReady WalkChange.Nothing b = true
-walksReady (Add w) b = among w (walks b) || ltb (length (walks b)) 23
-walksReady (Drop f) b = true
-
-unfoldable pub portReady : Write → Bool
-portReady Write.Nothing = true
-portReady (Memory a d v) = true
-portReady (LocalPort a v) = ltb a 128
-portReady (IoPort a v) = true
-
-unfoldable pub ready : Plan → List ℕ → Bool
-ready p b = bufferReady (p .buffer) b && (walksReady (p .walks) b && portReady (p .write))
-
-unfoldable pub fits : Write → ℕ → Bool
-fits Write.Nothing n = true
-fits (Memory a d v) n = sized d && leb (a + d) n
-fits (LocalPort a v) n = true
-fits (IoPort a v) n = ioapic.writes a v

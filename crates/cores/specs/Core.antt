@@ -1,6 +1,5 @@
 -- A step of a core (11.3, a = (core, wI, wR, i)), on what its block, the I/O APIC's ports and memory show.
 -- Assumes nothing.
-use mathlib.Core.Path.{_≡_}
 use mathlib.Core.Bool.{Bool, true, false, not, _&&_, _||_}
 use mathlib.Core.List.{List, [], _∷_}
 use Prim.Native.Nat.{ℕ, _+_, _*_, _%_, _^_}
@@ -19,7 +18,7 @@ use Rattle.records.specs.declared.Walk.{Walk}
 use Rattle.records.specs.declared.Store.{Store}
 use Rattle.records.specs.declared.Flush.the-variants.{All, Page, Incomplete}
 use Rattle.records.specs.Records.{among, stores, walks}
-use Rattle.records.specs.Contents.{allThere, soundRecords}
+use Rattle.records.specs.Contents.{allThere}
 use Rattle.tlb.specs.declared.Request.{Request}
 use Rattle.tlb.specs.declared.Faulting.{Faulting}
 use Rattle.tlb.specs.declared.Faulting.the-variants.{Faults, Passes, Undecided}
@@ -78,12 +77,6 @@ ioPortsOf t = record { select = ioregselOf t; window = iowinOf t }
 -- the port words that a core sees
 abbrev pub portsBeside : View → IoPorts → Ports
 portsBeside v io = record { apic = v .apic; select = io .select; window = io .window }
-
--- what a core's step asks of its block b and of the memory m: 256 words, sound records, and whole words of memory
-pub record SoundBeside (b m : List ℕ) : Type 0 where
-  pub long : length b ≡ 256
-  pub records : soundRecords (length m) b ≡ true
-  pub whole : length m % 4 ≡ 0
 
 -- ∨ eev[i], and min { j | eev[j] = 1 }
 abbrev pub isEvent : Found → Bool

@@ -4,3 +4,4 @@ pub mod Core
 pub mod TlbSteps
 pub mod BufferStep
 pub mod Commit
+pub mod inner

@@ -36,9 +36,10 @@ ghost use Rattle.tlb.specs.declared.Faulting.the-variants as verdict;
 ghost use Rattle.cores.specs.Guards.{settle};
 ghost use Rattle.cores.specs.Plans as p;
 ghost use Rattle.cores.specs.Core as x;
+ghost use Rattle.cores.specs.inner.Ready.{SoundBeside};
 
 fn load(b: &[u32], io: IoPorts, m: &[u8], f: Fetched, a: u32) -> Plan
-    requires { ⌜ x.SoundBeside (now b) (now m) ⌝ }
+    requires { ⌜ SoundBeside (now b) (now m) ⌝ }
     requires { ⌜ aligned a (d (f .instruction)) ≡ true ⌝ }
     ensures { λ r. ⌜ r ≡ x.onLoad (x.viewOf (now (b .entry))) (f .instruction) (f .word) (f .causes) (loaded (stores (now (b .entry))) (x.portsBeside (x.viewOf (now (b .entry))) io) (now (m .entry)) a (d (f .instruction))) ⌝ }
 {
@@ -97,7 +98,7 @@ fn stored(b: &[u32], f: Fetched, a: u32) -> Store
 }
 
 fn store(b: &[u32], m: &[u8], f: Fetched, a: u32) -> Plan
-    requires { ⌜ x.SoundBeside (now b) (now m) ⌝ }
+    requires { ⌜ SoundBeside (now b) (now m) ⌝ }
     requires { ⌜ aligned a (d (f .instruction)) ≡ true ⌝ }
     ensures { λ r. ⌜ r ≡ x.onStore (x.viewOf (now (b .entry))) (f .instruction) (f .word) (f .causes) (x.storedFrom (registersOf (now (b .entry))) (f .instruction) (f .word) a) (allThere (d (f .instruction)) (length (now (m .entry))) a) ⌝ }
 {
@@ -150,7 +151,7 @@ fn cas(b: &[u32], m: &[u8], f: Fetched, a: u32) -> Plan
 
 // A load, store or cas at a physical address.
 fn performed(b: &[u32], io: IoPorts, m: &[u8], f: Fetched, a: u32) -> Plan
-    requires { ⌜ x.SoundBeside (now b) (now m) ⌝ }
+    requires { ⌜ SoundBeside (now b) (now m) ⌝ }
     requires { ⌜ x.isAccess (f .instruction) ≡ true ⌝ }
     requires { ⌜ aligned a (d (f .instruction)) ≡ true ⌝ }
     ensures { λ r. ⌜ r ≡ x.performed (x.viewOf (now (b .entry))) io (now (m .entry)) (f .instruction) (f .word) (f .causes) a ⌝ }
@@ -186,7 +187,7 @@ fn has_hazard(b: &[u32], i: Instruction, a: u32) -> bool
 
 // A load, store or cas that does not fault, at its physical address.
 fn at_address(b: &[u32], io: IoPorts, m: &[u8], f: Fetched, a: u32) -> Plan
-    requires { ⌜ x.SoundBeside (now b) (now m) ⌝ }
+    requires { ⌜ SoundBeside (now b) (now m) ⌝ }
     requires { ⌜ x.isAccess (f .instruction) ≡ true ⌝ }
     requires { ⌜ a % 4 ≡ ea (f .instruction) (registersOf (now b)) (f .word) % 4 ⌝ }
     requires { ⌜ f .causes ≡ x.causes (x.viewOf (now b)) (f .instruction) (f .word) false ⌝ }
@@ -207,7 +208,7 @@ fn at_address(b: &[u32], io: IoPorts, m: &[u8], f: Fetched, a: u32) -> Plan
 
 // A load, store or cas that does not fault, by the walk that was used.
 fn passed(b: &[u32], io: IoPorts, m: &[u8], walk: Walk, f: Fetched) -> Plan
-    requires { ⌜ x.SoundBeside (now b) (now m) ⌝ }
+    requires { ⌜ SoundBeside (now b) (now m) ⌝ }
     requires { ⌜ x.isAccess (f .instruction) ≡ true ⌝ }
     requires { ⌜ (not (user (registersOf (now b))) || ltb (walk .second) (2 ^ 20)) ≡ true ⌝ }
     requires { ⌜ f .causes ≡ x.causes (x.viewOf (now b)) (f .instruction) (f .word) false ⌝ }
@@ -244,7 +245,7 @@ fn data_request(b: &[u32], i: Instruction, w: u32) -> Request
 
 // A load, store or cas by the data walk. A page fault is one cause more.
 fn access(b: &[u32], io: IoPorts, m: &[u8], walk: Walk, f: Fetched) -> Plan
-    requires { ⌜ x.SoundBeside (now b) (now m) ⌝ }
+    requires { ⌜ SoundBeside (now b) (now m) ⌝ }
     requires { ⌜ x.isAccess (f .instruction) ≡ true ⌝ }
     requires { ⌜ f .causes ≡ x.causes (x.viewOf (now b)) (f .instruction) (f .word) false ⌝ }
     ensures { λ r. ⌜ r ≡ settle p.refused (x.onAccess (x.viewOf (now (b .entry))) io (now (m .entry)) walk (f .instruction) (f .word)) ⌝ }
@@ -319,7 +320,7 @@ fn is_access(i: Instruction) -> bool
 
 // An instruction that was fetched.
 pub fn instruction(b: &[u32], io: IoPorts, m: &[u8], walk: Walk, i: Instruction, w: u32) -> Plan
-    requires { ⌜ x.SoundBeside (now b) (now m) ⌝ }
+    requires { ⌜ SoundBeside (now b) (now m) ⌝ }
     ensures { λ r. ⌜ r ≡ settle p.refused (x.onInstruction (x.viewOf (now (b .entry))) io (now (m .entry)) walk i w) ⌝ }
 {
     if !finds_buffer(b, i) {

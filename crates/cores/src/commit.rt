@@ -18,6 +18,7 @@ ghost use Rattle.isa.specs.Interrupts.{deltaJisr};
 ghost use Rattle.apic.specs.LocalApic.{onJisr};
 ghost use Rattle.tables.specs.Views.{registersOf, withRegisters};
 ghost use Rattle.cores.specs.Commit as x;
+ghost use Rattle.cores.specs.inner.Ready.{portReady, ready, fits};
 
 // The registers are taken out of the block, and what an instruction, an interrupt or a return makes of them is put back.
 fn execute(b: &mut [u32], i: Instruction, w: u32, read: u32)
@@ -98,7 +99,7 @@ fn walks(b: &mut [u32], change: WalkChange)
 
 fn local_port(b: &mut [u32], write: Write)
     requires { ⌜ length (now b) ≡ 256 ⌝ }
-    requires { ⌜ x.portReady write ≡ true ⌝ }
+    requires { ⌜ portReady write ≡ true ⌝ }
     ensures { λ _. ⌜ now (b .exit) ≡ x.portAfter write (now (b .entry)) ⌝ }
 {
     match write {
@@ -114,7 +115,7 @@ fn local_port(b: &mut [u32], write: Write)
 fn on_block(b: &mut [u32], p: Plan)
     requires { ⌜ length (now b) ≡ 256 ⌝ }
     requires { ⌜ linked (now b) ≡ true ⌝ }
-    requires { ⌜ x.ready p (now b) ≡ true ⌝ }
+    requires { ⌜ ready p (now b) ≡ true ⌝ }
     ensures { λ _. ⌜ now (b .exit) ≡ x.blockAfter p (now (b .entry)) ⌝ }
 {
     let c = p.core;
@@ -130,7 +131,7 @@ fn on_block(b: &mut [u32], p: Plan)
 // The I/O APIC's ports and memory.
 fn beyond_block(t: &mut [u32], m: &mut [u8], write: Write)
     requires { ⌜ 32 ≤ length (now t) ⌝ }
-    requires { ⌜ x.fits write (length (now m)) ≡ true ⌝ }
+    requires { ⌜ fits write (length (now m)) ≡ true ⌝ }
     ensures { λ _. ⌜ now (t .exit) ≡ x.headerAfter write (now (t .entry)) ⌝ }
     ensures { λ _. ⌜ now (m .exit) ≡ x.writtenTo write (now (m .entry)) ⌝ }
 {
@@ -155,8 +156,8 @@ fn beyond_block(t: &mut [u32], m: &mut [u8], write: Write)
 pub fn commit(t: &mut [u32], m: &mut [u8], k: u32, p: Plan)
     requires { ⌜ 32 + 256 * k + 256 ≤ length (now t) ⌝ }
     requires { ⌜ linked (block (now t) k) ≡ true ⌝ }
-    requires { ⌜ x.fits (p .write) (length (now m)) ≡ true ⌝ }
-    requires { ⌜ x.ready p (block (now t) k) ≡ true ⌝ }
+    requires { ⌜ fits (p .write) (length (now m)) ≡ true ⌝ }
+    requires { ⌜ ready p (block (now t) k) ≡ true ⌝ }
     ensures { λ _. ⌜ now (t .exit) ≡ x.tablesByPlan k p (now (t .entry)) ⌝ }
     ensures { λ _. ⌜ now (m .exit) ≡ x.memoryByPlan p (now (m .entry)) ⌝ }
 {

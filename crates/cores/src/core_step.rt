@@ -23,10 +23,11 @@ ghost use Rattle.tlb.specs.declared.Faulting.the-variants as verdict;
 ghost use Rattle.cores.specs.Guards.{settle};
 ghost use Rattle.cores.specs.Plans as p;
 ghost use Rattle.cores.specs.Core as x;
+ghost use Rattle.cores.specs.inner.Ready.{SoundBeside};
 
 // The instruction at a physical address.
 fn at_address(b: &[u32], io: IoPorts, m: &[u8], access: Walk, a: u32) -> Plan
-    requires { ⌜ x.SoundBeside (now b) (now m) ⌝ }
+    requires { ⌜ SoundBeside (now b) (now m) ⌝ }
     requires { ⌜ a % 4 ≡ 0 ⌝ }
     ensures { λ r. ⌜ r ≡ settle p.refused (x.onFetchAddress (x.viewOf (now (b .entry))) io (now (m .entry)) access a) ⌝ }
 {
@@ -45,7 +46,7 @@ fn at_address(b: &[u32], io: IoPorts, m: &[u8], access: Walk, a: u32) -> Plan
 
 // A fetch that does not fault, by the walk that was used.
 fn passed(b: &[u32], io: IoPorts, m: &[u8], fetch: Walk, access: Walk) -> Plan
-    requires { ⌜ x.SoundBeside (now b) (now m) ⌝ }
+    requires { ⌜ SoundBeside (now b) (now m) ⌝ }
     requires { ⌜ registersOf (now b) .pc % 4 ≡ 0 ⌝ }
     requires { ⌜ (not (user (registersOf (now b))) || ltb (fetch .second) (2 ^ 20)) ≡ true ⌝ }
     ensures { λ r. ⌜ r ≡ settle p.refused (x.onFetch (x.viewOf (now (b .entry))) io (now (m .entry)) fetch access verdict.Passes) ⌝ }
@@ -72,7 +73,7 @@ fn fetch_request(b: &[u32]) -> Request
 
 // A fetch by the fetch walk.
 fn by_walk(b: &[u32], io: IoPorts, m: &[u8], fetch: Walk, access: Walk) -> Plan
-    requires { ⌜ x.SoundBeside (now b) (now m) ⌝ }
+    requires { ⌜ SoundBeside (now b) (now m) ⌝ }
     requires { ⌜ registersOf (now b) .pc % 4 ≡ 0 ⌝ }
     ensures { λ r. ⌜ r ≡ settle p.refused (x.fetch (x.viewOf (now (b .entry))) io (now (m .entry)) fetch access) ⌝ }
 {
@@ -94,7 +95,7 @@ fn by_walk(b: &[u32], io: IoPorts, m: &[u8], fetch: Walk, access: Walk) -> Plan
 
 // A step of a core with the walks of its fetch and of its access.
 pub fn core_step(b: &[u32], io: IoPorts, m: &[u8], fetch: Walk, access: Walk) -> Plan
-    requires { ⌜ x.SoundBeside (now b) (now m) ⌝ }
+    requires { ⌜ SoundBeside (now b) (now m) ⌝ }
     ensures { λ r. ⌜ r ≡ x.corePlan (x.viewOf (now (b .entry))) io (now (m .entry)) fetch access ⌝ }
 {
     if !block::runs(b) {

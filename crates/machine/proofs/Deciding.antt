@@ -26,12 +26,12 @@ use Rattle.steps.specs.declared.Step.{Step}
 use Rattle.steps.specs.declared.Step.the-variants as kind
 use Rattle.steps.specs.Form.{stepOf}
 use Rattle.cores.specs.Core.{ioPortsOf}
-use Rattle.cores.specs.Commit.{ready}
+use Rattle.cores.specs.inner.Ready.{ready}
 use Rattle.cores.proofs.Decisions.{MayBeDone, create-plan, extend-plan, accessed-plan, drain-plan}
 use Rattle.cores.proofs.Executions.{core-plan}
 use Rattle.machine.specs.declared.action.Action.{Action}
 use Rattle.machine.specs.declared.action.Action.the-variants.{Refused, Planned, SendIpi, SendEoi, InitCore, StartCore, Sample, Deliver, SetLine}
-use Rattle.machine.specs.Actions.{doable}
+use Rattle.machine.specs.inner.Doable.{doable}
 use Rattle.machine.specs.Decide.{ifAllowed, toSend, toEnd, byStep, decided}
 use Rattle.machine.specs.inner.Split.{formed, isPlan, isPlanned}
 use Rattle.machine.proofs.Forms.{step-formed}

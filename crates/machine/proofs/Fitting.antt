@@ -18,10 +18,10 @@ use Rattle.tables.proofs.Steps.{block-linked}
 use Rattle.tables.proofs.Lift.{header, core-fits, core-sound, bytes-divide}
 use Rattle.apic.specs.declared.active.Ipi.{Ipi}
 use Rattle.cores.specs.declared.Plan.{Plan}
-use Rattle.cores.specs.Commit.{ready, fits}
+use Rattle.cores.specs.inner.Ready.{ready, fits}
 use Rattle.machine.specs.declared.action.Action.{Action}
 use Rattle.machine.specs.declared.action.Action.the-variants.{Planned, SendIpi, SendEoi, InitCore, StartCore, Sample, Deliver, SetLine}
-use Rattle.machine.specs.Actions.{doable}
+use Rattle.machine.specs.inner.Doable.{doable}
 use Rattle.word.proofs.Truth.{and-left, and-right}
 
 module _ (t : List ℕ) (n : ℕ) (e : sound t n ≡ true) where

@@ -1,13 +1,10 @@
 -- What a step is to do, what it answers, and what it makes of the tables and of memory.
 -- Assumes nothing.
-use mathlib.Core.Bool.{Bool, true, false, _&&_}
 use mathlib.Core.List.{List}
-use Prim.Native.Nat.{ℕ, _+_}
-use lib.Dec.{ltb}
-use lib.ListN.{getD, set, length}
+use Prim.Native.Nat.{ℕ}
+use lib.ListN.{set}
 use Rattle.word.specs.Word.{withBit}
 use Rattle.layout.specs.Layout.{lines}
-use Rattle.layout.specs.Blocks.{block}
 use Rattle.tables.specs.Views.{coresOf, linesOf}
 use Rattle.apic.specs.Active.{initCore, startCore}
 use Rattle.ioapic.specs.Blocks.{onBlock}
@@ -55,15 +52,3 @@ memoryAfter (StartCore k) m = m
 memoryAfter (Sample l) m = m
 memoryAfter (Deliver l) m = m
 memoryAfter (SetLine l v) m = m
-
--- what an action asks of tables with n cores, beside a memory of c bytes
-unfoldable pub doable : ℕ → ℕ → Action → List ℕ → Bool
-doable n c (Refused x) t = true
-doable n c (Planned k p) t = ltb k n && (cores.ready p (block t k) && cores.fits (p .write) c)
-doable n c (SendIpi k m) t = ltb k n && ltb (m .vect) 256
-doable n c (SendEoi k v) t = ltb k n && ltb v 256
-doable n c (InitCore k) t = ltb k n
-doable n c (StartCore k) t = ltb k n
-doable n c (Sample l) t = ltb l 24
-doable n c (Deliver l) t = ltb l 24
-doable n c (SetLine l v) t = ltb l 24 && ltb v 2

@@ -12,6 +12,7 @@ ghost use lib.ListN.{length};
 ghost use Rattle.tables.specs.Sound.{sound};
 ghost use Rattle.tables.specs.Views.{coresOf};
 ghost use Rattle.machine.specs.Actions as x;
+ghost use Rattle.machine.specs.inner.Doable.{doable};
 ghost use Rattle.machine.specs.inner.Split.{isPlan};
 
 pub enum Action {
@@ -55,7 +56,7 @@ fn set_line(t: &mut [u32], l: u32, level: u32)
 // What was decided by a step that has no plan is done.
 pub fn commit(t: &mut [u32], m: &mut [u8], a: Action)
     requires { ⌜ sound (now t) (length (now m)) ≡ true ⌝ }
-    requires { ⌜ x.doable (coresOf (now t)) (length (now m)) a (now t) ≡ true ⌝ }
+    requires { ⌜ doable (coresOf (now t)) (length (now m)) a (now t) ≡ true ⌝ }
     requires { ⌜ isPlan a ≡ false ⌝ }
     ensures { λ _. ⌜ now (t .exit) ≡ x.tablesAfter a (now (t .entry)) ⌝ }
     ensures { λ _. ⌜ now (m .exit) ≡ x.memoryAfter a (now (m .entry)) ⌝ }

@@ -12,7 +12,7 @@ use borrow.Author.Tests.{eqb-true, ltb-true, leb-true, leb-false, lt-leb}
 use Rattle.word.specs.Word.{if_then_else_}
 use Rattle.word.proofs.Tests.{true-false}
 use Rattle.word.specs.Bytes.{byte}
-use Rattle.word.proofs.Truth.{or-true}
+use Rattle.word.proofs.Truth.{or-true, and-true}
 use Rattle.layout.specs.Layout.{localPorts, ioPorts}
 use Rattle.layout.specs.Blocks.{block}
 use Rattle.decode.specs.declared.Instruction.{Instruction}
@@ -165,7 +165,7 @@ module _ (t m : List ℕ) (e : sound t (length m) ≡ true) (low : Words t) (i :
     guards-hold M = holds t m e low i h wI wR w F (A .acc) (A .finds) (A .held) (A .clear) (A .entry) (A .ended) (A .free) (A .safe) M
 
     does-as : (M : ℕ → ℕ) (p : Instruction → Bool) → report.does (c M) i wI wR p ≡ p x
-    does-as M p = does-is t m e low i h wI wR w F false none-faults M p ∙ (ap (λ (y : Bool). p x && not y) (A .runs) ∙ guards.and-true (p x))
+    does-as M p = does-is t m e low i h wI wR w F false none-faults M p ∙ (ap (λ (y : Bool). p x && not y) (A .runs) ∙ and-true (p x))
 
     does-not : (M : ℕ → ℕ) (p : Instruction → Bool) → p x ≡ false → report.does (c M) i wI wR p ≡ false
     does-not M p q = does-as M p ∙ q

@@ -6,6 +6,7 @@ use mathlib.Core.List.{List}
 use Prim.Native.Nat.{ℕ, _+_, _%_, _^_, _<_, _≤_}
 use lib.ListN.{length}
 use native.Mathlib.Omega.{arith}
+use Rattle.word.proofs.Truth.{and-true}
 use Rattle.word.specs.Word.{if_then_else_}
 use Rattle.word.proofs.Tests.{true-false, and-false}
 use Rattle.layout.specs.Blocks.{block}
@@ -166,7 +167,7 @@ module _ (t m : List ℕ) (e : sound t (length m) ≡ true) (low : Words t) (i :
 
       module _ (s : suppressed ca₀ ≡ false) where
         does-all : (M : ℕ → ℕ) (p : Instruction → Bool) → report.does (c M) i wI wR p ≡ p x
-        does-all M p = does-is false no-pfls M p ∙ (ap (λ (y : Bool). p x && not y) s ∙ guards.and-true (p x))
+        does-all M p = does-is false no-pfls M p ∙ (ap (λ (y : Bool). p x && not y) s ∙ and-true (p x))
 
         off-all : (load x ≡ false) × (store x ≡ false) × (cas x ≡ false)
         off-all = each (load x) (store x) (cas x) n

@@ -5,7 +5,8 @@ use mathlib.Core.Path.{_∙_, ap}
 use lib.ListN.{length}
 use Rattle.layout.proofs.Blocks.{part, part-done, block-long}
 use Rattle.records.specs.Records.{linked}
-use Rattle.cores.specs.Commit.{ready, blockAfter, headerAfter, tablesByPlan}
+use Rattle.cores.specs.Commit.{blockAfter, headerAfter, tablesByPlan}
+use Rattle.cores.specs.inner.Ready.{ready}
 
 block-at-requires : tie.Need-block-at-requires
 block-at-requires c κs = search needs
