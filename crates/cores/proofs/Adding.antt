@@ -11,6 +11,7 @@ use native.Mathlib.Omega.{arith}
 use borrow.Author.Tests.{ne-eqb, eqb-true, lt-ltb, le-ltb, le-leb, lt-leb}
 use Rattle.word.proofs.Laws.{side}
 use Rattle.word.proofs.Tests.{true-false}
+use Rattle.word.proofs.Truth.{and-true}
 use Rattle.records.specs.declared.Walk.{Walk}
 use Rattle.records.specs.Records.{among}
 use Rattle.records.specs.Contents.{there, allThere, localPort, ioPort}
@@ -49,14 +50,6 @@ pub or-other : (a b : Bool) → (a || b) ≡ true → a ≡ false → b ≡ true
 or-other false b e p = e
 or-other true b e p = absurd (true-false p)
 
-pub or-left : (a b : Bool) → (a || b) ≡ false → a ≡ false
-or-left false b e = refl
-or-left true b e = e
-
-pub or-right : (a b : Bool) → (a || b) ≡ false → b ≡ false
-or-right false b e = e
-or-right true b e = absurd (true-false e)
-
 -- ---- the bytes of a store
 
 module _ (a b n : ℕ) (p : a / 4 ≡ b / 4) (q : n % 4 ≡ 0) where
@@ -74,10 +67,6 @@ there-same n a b p q =
 and-same : (x : Bool) → (x && x) ≡ x
 and-same true = refl
 and-same false = refl
-
-and-true : (x : Bool) → (x && true) ≡ x
-and-true true = refl
-and-true false = refl
 
 all-same : (d n a x : ℕ) → a % 4 + suc d ≤ 4 → n % 4 ≡ 0 → a / 4 ≡ x / 4 → allThere (suc d) n a ≡ there n x
 all-same zero n a x f q p = and-true (there n a) ∙ there-same n a x p q

@@ -5,12 +5,8 @@ use mathlib.Core.Bool.{Bool, true, false, _||_, false≢true}
 use mathlib.Core.List.{List, [], _∷_, _++_}
 use Prim.Native.Nat.{ℕ}
 use Rattle.word.specs.Word.{if_then_else_}
+use Rattle.word.proofs.Truth.{tested}
 use Rattle.cores.specs.Guards.{Guard, test, isFailure, isUndecided, anyOf, Judged, yield, ask, settle}
-
--- a test is a fact or its opposite
-tested : {B : Type 0} (t : Bool) → (t ≡ true → B) → (t ≡ false → B) → B
-tested true f g = f refl
-tested false f g = g refl
 
 clash : {A : Type 0} (t : Bool) → t ≡ true → t ≡ false → A
 clash t p q = absurd (false≢true (sym q ∙ p))

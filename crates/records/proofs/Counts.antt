@@ -67,7 +67,7 @@ all-append p (x ∷ s) t = ap (λ (r : Bool). p x && r) (all-append p s t) ∙ g
     group false b c = refl
 
 -- two tests of every element are one
-all-and : (p q : ℕ → Bool) (l : List ℕ) → all (λ n. p n && q n) l ≡ all p l && all q l
+pub all-and : (p q : ℕ → Bool) (l : List ℕ) → all (λ n. p n && q n) l ≡ all p l && all q l
 unfolding all
 all-and p q [] = refl
 all-and p q (x ∷ l) = ap (λ (r : Bool). (p x && q x) && r) (all-and p q l) ∙ change (p x) (q x) (all p l) (all q l)

@@ -16,6 +16,7 @@ use Rattle.word.specs.Word.{isSet, flag, if_then_else_, withBit}
 use Rattle.word.proofs.Truth.{and-left, and-right, and-both, tested, and-true}
 use Rattle.layout.specs.Blocks.{block}
 use Rattle.records.specs.Records.{all}
+use Rattle.records.proofs.Counts.{all-and}
 use Rattle.tables.specs.Views.{coresOf, pagesOf, runs}
 use Rattle.tables.specs.Sound.{sound}
 use Rattle.word.proofs.Bits.{bit-same, bit-other}
@@ -44,12 +45,6 @@ all-tests p q l f =
     both-ways (all p l) (all q l)
     (λ e. in-all q l (λ x h. sym (f x h) ∙ all-in p l x e h))
     (λ e. in-all p l (λ x h. f x h ∙ all-in q l x e h))
-
-all-and : (p q : ℕ → Bool) (l : List ℕ) → all p l && all q l ≡ all (λ x. p x && q x) l
-all-and p q l =
-    both-ways (all p l && all q l) (all (λ x. p x && q x) l)
-    (λ e. in-all (λ x. p x && q x) l (λ x h. and-both (p x) (q x) (all-in p l x (and-left (all p l) _ e) h) (all-in q l x (and-right (all p l) _ e) h)))
-    (λ e. and-both (all p l) (all q l) (in-all p l (λ x h. and-left (p x) (q x) (all-in (λ y. p y && q y) l x e h))) (in-all q l (λ x h. and-right (p x) (q x) (all-in (λ y. p y && q y) l x e h))))
 
 all-select : (p f : ℕ → Bool) (l : List ℕ) → all p (select f l) ≡ all (λ x. not (f x) || p x) l
 unfolding all select
@@ -136,7 +131,7 @@ users-are g t =
     ∙ ap₂ _&&_ (all-select (runsAsUser t) (λ k. isSet g k) (range (coresOf t)))
     (ap (all (runsAsUser t)) (select-select (λ k. not (isSet g k)) (λ k. runs (block t k)) (range (coresOf t)))
     ∙ all-select (runsAsUser t) (isOther g t) (range (coresOf t)))
-    ∙ all-and (λ k. not (isSet g k) || runsAsUser t k) (λ k. not (isOther g t k) || runsAsUser t k) (range (coresOf t))
+    ∙ sym (all-and (λ k. not (isSet g k) || runsAsUser t k) (λ k. not (isOther g t k) || runsAsUser t k) (range (coresOf t)))
     ∙ all-tests (λ k. (not (isSet g k) || runsAsUser t k) && (not (isOther g t k) || runsAsUser t k)) (passes g t) (range (coresOf t))
     (λ k h. one-side (isSet g k) (runs (block t k)) (runsAsUser t k))
   where
@@ -197,8 +192,8 @@ module _ (n : ℕ) (S T : Pages) (e : inMemory S n ≡ true) (f : inMemory T n �
   pages-are =
       ap₂ _&&_ (ap₂ _&&_ (closed-below S e) (closed-below T f)) cross-below
       ∙ ap (λ (t : Bool). t && all (λ x. not (not (eqb (mapByte S x) 0) && (isSet (mapByte T x) 2 || isSet (mapByte T x) 1))) (range n))
-      (all-and (λ x. not (both (mapByte S x))) (λ x. not (both (mapByte T x))) (range n))
-      ∙ all-and (λ x. not (both (mapByte S x)) && not (both (mapByte T x))) (λ x. not (not (eqb (mapByte S x) 0) && (isSet (mapByte T x) 2 || isSet (mapByte T x) 1))) (range n)
+      (sym (all-and (λ x. not (both (mapByte S x))) (λ x. not (both (mapByte T x))) (range n)))
+      ∙ sym (all-and (λ x. not (both (mapByte S x)) && not (both (mapByte T x))) (λ x. not (not (eqb (mapByte S x) 0) && (isSet (mapByte T x) 2 || isSet (mapByte T x) 1))) (range n))
       ∙ all-tests _ (λ x. pageApart (mapByte S x) (mapByte T x)) (range n) (λ x h. regroup (not (both (mapByte S x))) (not (both (mapByte T x))) _)
     where
       regroup : (a b c : Bool) → ((a && b) && c) ≡ (a && (b && c))

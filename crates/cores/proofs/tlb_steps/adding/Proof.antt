@@ -2,11 +2,12 @@ use borrow.Author.Needs.{needs}
 use Rattle.cores.proofs.tlb_steps.adding.Statement.{statement}
 use Rattle.cores.proofs.tlb_steps.adding.Tie as tie
 use mathlib.Core.Path.{sym, _∙_, ap, refl}
-use Rattle.cores.proofs.Adding.{adding-held, adding-full, adding-none, adding-room, or-other, or-left, or-right}
+use Rattle.cores.proofs.Adding.{adding-held, adding-full, adding-none, adding-room, or-other}
 use mathlib.Core.Bool.{not}
 use denote.Ref.{now}
 use lib.Dec.{eqb, leb}
 use lib.ListN.{getD}
+use Rattle.word.proofs.Truth.{or-none-left, or-none-right}
 
 count-walks-requires : tie.Need-count-walks-requires
 count-walks-requires c κs = search needs
@@ -39,7 +40,7 @@ done-requires-2 : tie.Need-done-requires-2
 done-requires-2 c κs = search needs
 
 returns-4 : tie.Need-returns-4
-returns-4 c = let o = or-right (leb 23 (c .before .before .before .count-walks .result)) (eqb (getD (now (c .before .before .before .before .before .args .b)) 70 0) 0) (c .before .if1 .left) in c .done2 .ensures ∙ adding-room _ _ _ (rw (← (c .before .before .before .count-walks .ensures)) (or-left (leb 23 (c .before .before .before .count-walks .result)) (eqb (getD (now (c .before .before .before .before .before .args .b)) 70 0) 0) (c .before .if1 .left))) (ap not o)
+returns-4 c = let o = or-none-right (leb 23 (c .before .before .before .count-walks .result)) (eqb (getD (now (c .before .before .before .before .before .args .b)) 70 0) 0) (c .before .if1 .left) in c .done2 .ensures ∙ adding-room _ _ _ (rw (← (c .before .before .before .count-walks .ensures)) (or-none-left (leb 23 (c .before .before .before .count-walks .result)) (eqb (getD (now (c .before .before .before .before .before .args .b)) 70 0) 0) (c .before .if1 .left))) (ap not o)
 
 pub adding-spec : {M : Type 1} → statement M
 adding-spec =
