@@ -96,9 +96,9 @@ pub kept-marked : (b c : List ℕ) (p q x : ℕ) → 72 ≤ p → p + 8 ≤ 112 
 kept-marked b c p q x l h hx = marked-case b p (lowest c q) x l h (least-vector (λ (k : ℕ). bitAt c q k)) hx
 
 module _ (b : List ℕ) where
-  pub kept-ended : (v : ℕ) → v < 2 ^ 32 → Kept Passive b (eoiWritten b v)
+  pub kept-eoi-written : (v : ℕ) → v < 2 ^ 32 → Kept Passive b (eoiWritten b v)
   unfolding eoiWritten
-  kept-ended v hv =
+  kept-eoi-written v hv =
       kept-then Passive (port b eoi v (omega arith) (omega arith) (λ w. hv))
       (kept-then Passive (kept-marked (set b eoi v) b isr isr 0 (omega arith) (omega arith) (omega arith))
       (kept-marked (marked (set b eoi v) isr (lowest b isr) 0) b eoipending isr 1 (omega arith) (omega arith) (omega arith)))
@@ -106,7 +106,7 @@ module _ (b : List ℕ) where
   pub kept-written : (a v : ℕ) → a < 128 → v < 2 ^ 32 → Kept Passive b (portWritten b a v)
   unfolding portWritten
   kept-written a v ha hv =
-      kept-if Passive (eqb a 12) (kept-ended v hv) (port b (portAt a) v (omega arith) (omega arith) (λ w. hv))
+      kept-if Passive (eqb a 12) (kept-eoi-written v hv) (port b (portAt a) v (omega arith) (omega arith) (λ w. hv))
 
   pub kept-init : Kept Passive b (init b)
   unfolding init
@@ -144,9 +144,9 @@ module _ (b : List ℕ) where
   kept-idle =
       port b icr (withBit (getD b icr 0) 12 0) (omega arith) (omega arith) (λ w. put-below 32 (getD b icr 0) 12 0 (w icr) (omega arith) (omega arith))
 
-  pub kept-reached : (m : Ipi) (own : Bool) → m .vect < 256 → Kept Passive b (receivedBy m own b)
+  pub kept-received-by : (m : Ipi) (own : Bool) → m .vect < 256 → Kept Passive b (receivedBy m own b)
   unfolding receivedBy
-  kept-reached m own h =
+  kept-received-by m own h =
       kept-if Passive (aimed (m .target) own (eqb (idOf b) (m .dest))) (kept-received (m .kind) (m .vect) h) (kept-all Passive b)
 
 -- ---- initCore and startCore: special registers, pc, the flags

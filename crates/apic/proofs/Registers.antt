@@ -1,4 +1,4 @@
--- What each passive step does to ISR, IRR and eoipending, vector by vector, as 9.2 prints it.
+-- One vector put into a register, seen vector by vector.
 -- Assumes nothing.
 use mathlib.Core.Path.{_≡_, refl, sym, ap, _∙_}
 use mathlib.Core.Bool.{Bool, true, false}
@@ -12,10 +12,8 @@ use borrow.Author.Tests.{eqb-true, eqb-false}
 use Rattle.word.specs.Word.{bit, withBit}
 use Rattle.apic.specs.declared.vectors.Found.{Found}
 use Rattle.apic.specs.declared.vectors.Found.the-variants.{Vector, None}
-use Rattle.apic.specs.Vectors.{bitAt, withVector, lowest, marked, isVector}
-use Rattle.apic.specs.LocalApic.{eoi}
+use Rattle.apic.specs.Vectors.{bitAt, withVector, marked}
 use Rattle.word.proofs.Bits.{bit-same, bit-other}
-use Rattle.apic.proofs.Least.{least-vector}
 
 -- ---- one vector put
 
@@ -48,16 +46,3 @@ pub marked-long : (b : List ℕ) (p : ℕ) (f : Found) (x : ℕ) → length (mar
 unfolding withVector
 marked-long b p None x = refl
 marked-long b p (Vector v) x = length-set b (p + v / 32) (withBit (getD b (p + v / 32) 0) (v % 32) x)
-
--- ---- 9.2
-
-module _ (b : List ℕ) (long : length b ≡ 256) (j : ℕ) (hj : j < 256) where
-  found : (p : ℕ) → isVector (lowest b p) ≡ true
-  found p = least-vector (λ (k : ℕ). bitAt b p k)
-
-  fits : (p : ℕ) (f : Found) (x q : ℕ) → q + 8 ≤ 256 → q + 8 ≤ length (marked b p f x)
-  fits p f x q l = omega (arith, marked-long b p f x)
-
-  module _ (v : ℕ) where
-    abbrev stored : List ℕ
-    stored = set b eoi v

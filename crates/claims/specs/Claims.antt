@@ -1,6 +1,6 @@
 -- What is claimed of the machine, in one place; proofs/Claims proves it.
 -- The operations that the claims speak of are those whose contracts the code is proved to meet, each an equality with a definition: make (tables,
--- specs/Make: `madeOr`), step and run (machine, specs/Step: `step`, specs/Run: `run`, which is single steps one after the other), reach (reach,
+-- specs/Make: `refusal` and `madeOr`), step and run (machine, specs/Step: `step`, specs/Run: `run`, which is single steps one after the other), reach (reach,
 -- specs/Reach: `reachOn`) and apart (separation, specs/Apart: `apartOn`).
 -- Assumes nothing.
 use Rattle.report.specs.Demands.{Demand1, Demand2, Unhindered, Resets}

@@ -10,8 +10,7 @@ use lib.ListN.{length}
 use native.Mathlib.Omega.{arith}
 use borrow.Author.Tests.{ne-eqb, eqb-true, lt-ltb, le-ltb, le-leb, lt-leb}
 use Rattle.word.proofs.Laws.{side}
-use Rattle.word.proofs.Tests.{true-false}
-use Rattle.word.proofs.Truth.{and-true}
+use Rattle.word.proofs.Truth.{and-true, or-other}
 use Rattle.records.specs.declared.Walk.{Walk}
 use Rattle.records.specs.Records.{among}
 use Rattle.records.specs.Contents.{there, allThere, localPort, ioPort}
@@ -44,11 +43,6 @@ module _ (tlb : List Walk) (free : Bool) (w : Walk) where
 
   pub adding-room : leb 23 (length tlb) ≡ false → free ≡ true → done BufferChange.Nothing (Add w) Write.Nothing ≡ adding tlb free w
   adding-room = room (among w tlb) refl
-
--- two tests, of which one holds or none
-pub or-other : (a b : Bool) → (a || b) ≡ true → a ≡ false → b ≡ true
-or-other false b e p = e
-or-other true b e p = absurd (true-false p)
 
 -- ---- the bytes of a store
 

@@ -5,11 +5,8 @@ use mathlib.Core.Bool.{Bool, true, false, _||_, false≢true}
 use mathlib.Core.List.{List, [], _∷_, _++_}
 use Prim.Native.Nat.{ℕ}
 use Rattle.word.specs.Word.{if_then_else_}
-use Rattle.word.proofs.Truth.{tested}
+use Rattle.word.proofs.Truth.{tested, clash}
 use Rattle.cores.specs.Guards.{Guard, test, isFailure, isUndecided, anyOf, Judged, yield, ask, settle}
-
-clash : {A : Type 0} (t : Bool) → t ≡ true → t ≡ false → A
-clash t p q = absurd (false≢true (sym q ∙ p))
 
 neither : (a b : Bool) → a || b ≡ false → (a ≡ false) × (b ≡ false)
 neither true b e = absurd (false≢true (sym e))

@@ -2,15 +2,15 @@
 -- Assumes nothing.
 use mathlib.Core.Path.{_≡_, refl, _∙_}
 use mathlib.Core.Logic.{inl, inr}
-use mathlib.Core.Bool.{Bool, true, false, _||_}
+use mathlib.Core.Bool.{Bool, true, false}
 use mathlib.Core.List.{List}
 use Prim.Native.Nat.{ℕ}
 use lib.ListN.{length, set, length-set}
 use lib.Dec.{ltb, eqb}
 use native.Mathlib.Omega.{arith}
 use borrow.Author.Tests.{ltb-true}
+use Rattle.word.proofs.Truth.{or-other}
 use Rattle.word.specs.Word.{if_then_else_}
-use Rattle.word.proofs.Tests.{true-false}
 use Rattle.isa.specs.declared.registers.Registers.{Registers}
 use Rattle.isa.specs.Core.{gprAt, putAt, effect, gprw, cad, gprdin, deltaInstr}
 use Rattle.isa.specs.Interrupts.{deltaJisr, deltaRfe, continues, il}
@@ -101,15 +101,11 @@ module _ (b : List ℕ) (long : length b ≡ 256) (e : linked b ≡ true) where
   buffer-after (Put s) r = let A = put-law b long e s (ltb-true (length (stores b)) 8 r) in (A .long, A .chains, A .walks-view)
   buffer-after Take r = let A = take-law b long e (ltb-true 0 (length (stores b)) r) in (A .long, A .chains, A .walks-view)
 
-  room : (a f : Bool) → (a || f) ≡ true → a ≡ false → f ≡ true
-  room true f p q = absurd (true-false q)
-  room false f p q = p
-
   pub walks-after : (c : WalkChange) → walksReady c b ≡ true → (length (walksAfter c b) ≡ 256) × (linked (walksAfter c b) ≡ true) × (stores (walksAfter c b) ≡ stores b)
   unfolding walksAfter walksReady
   walks-after WalkChange.Nothing r = (long, e, refl)
   walks-after (Add w) r =
-      let A = add-law b long e w (λ q. ltb-true (length (walks b)) 23 (room (among w (walks b)) (ltb (length (walks b)) 23) r q)) in (A .long, A .chains, A .stores-view)
+      let A = add-law b long e w (λ q. ltb-true (length (walks b)) 23 (or-other (among w (walks b)) (ltb (length (walks b)) 23) r q)) in (A .long, A .chains, A .stores-view)
   walks-after (Drop f) r = let A = drop-law b long e f in (A .long, A .chains, A .stores-view)
 
 -- what a change asks depends on the stores, or on the walks, alone

@@ -11,7 +11,7 @@ use lib.Dec.{eqb}
 use native.Mathlib.Omega.{arith}
 use borrow.Author.Tests.{ltb-true}
 use Rattle.word.specs.Word.{if_then_else_}
-use Rattle.word.proofs.Truth.{and-left, and-right}
+use Rattle.word.proofs.Truth.{and-left, and-right, or-other}
 use Rattle.layout.specs.Layout as at
 use Rattle.decode.specs.declared.Instruction.{Instruction}
 use Rattle.isa.specs.declared.registers.Registers.{Registers}
@@ -20,7 +20,8 @@ use Rattle.isa.specs.Interrupts.{deltaJisr, deltaRfe}
 use Rattle.isa.proofs.Laws.{put-zero, jisr-zero, rfe-zero}
 use Rattle.records.specs.declared.Store.{Store}
 use Rattle.records.specs.declared.Walk.{Walk}
-use Rattle.records.specs.Records.{stores, walks, among, goes, staying, withWalk}
+use Rattle.records.specs.Records.{stores, walks, among, goes}
+use Rattle.records.specs.inner.Walks.{staying, withWalk}
 use Rattle.records.specs.Contents.{storeSound, walkSound}
 use Rattle.records.proofs.Frame.{Alike, same-stores, same-walks, same-sound}
 use Rattle.records.proofs.Laws.{After}
@@ -45,7 +46,6 @@ use Rattle.cores.specs.declared.Plan.{Plan}
 use Rattle.cores.specs.Commit.{coreAfter, bufferAfter, walksAfter, portAfter, blockAfter}
 use Rattle.cores.specs.inner.Ready.{bufferReady, walksReady, portReady, ready}
 use Rattle.cores.proofs.Changes.{Full, effect-full, jisr-full, rfe-full, buffer-asks, walks-ask}
-use Rattle.cores.proofs.Adding.{or-other}
 
 -- ---- what a plan brings into the block, and what the block shows after it
 

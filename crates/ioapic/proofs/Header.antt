@@ -100,9 +100,9 @@ kept-entries t v (suc n) h =
     kept-then (kept-entries t v n (omega arith))
     (kept-entry u n (acknowledged v (entry u n)) (omega arith) (λ w. acknowledged-lt v (entry u n) (eqb (vect (entry u n)) v) (w (redirect + n))))
 
-pub kept-ended : (t : List ℕ) (v : ℕ) → Kept t (eoiReceived t v)
+pub kept-eoi-received : (t : List ℕ) (v : ℕ) → Kept t (eoiReceived t v)
 unfolding eoiReceived
-kept-ended t v = kept-entries t v 24 (omega arith)
+kept-eoi-received t v = kept-entries t v 24 (omega arith)
 
 module _ (f : ℕ → ℕ) (t : List ℕ) (i : ℕ) where
   -- entries from n on are not reached yet
@@ -133,6 +133,6 @@ module _ (f : ℕ → ℕ) (t : List ℕ) (i : ℕ) where
       (side i n)
 
 -- 10.2, EOI: every entry with this vector
-pub ended-entry : (t : List ℕ) (v i : ℕ) → 32 ≤ length t → i < 24 → entry (eoiReceived t v) i ≡ acknowledged v (entry t i)
+pub eoi-entry-at : (t : List ℕ) (v i : ℕ) → 32 ≤ length t → i < 24 → entry (eoiReceived t v) i ≡ acknowledged v (entry t i)
 unfolding eoiReceived
-ended-entry t v i l h = entries-at (acknowledged v) t i 24 (omega arith) h
+eoi-entry-at t v i l h = entries-at (acknowledged v) t i 24 (omega arith) h

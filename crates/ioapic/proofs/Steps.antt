@@ -15,14 +15,14 @@ use Rattle.layout.specs.Layout.{eoipending, redirect}
 use Rattle.apic.specs.declared.active.Ipi.{Ipi}
 use Rattle.apic.specs.LocalApic.{idOf, fixed, irr}
 use Rattle.apic.specs.Active.{idle, receivedBy, eoiSent}
-use Rattle.apic.proofs.Kept.{Passive, kept-all, kept-if, kept-idle, kept-reached, kept-vector}
+use Rattle.apic.proofs.Kept.{Passive, kept-all, kept-if, kept-idle, kept-received-by, kept-vector}
 use Rattle.apic.proofs.Kept as local
 use Rattle.layout.specs.Blocks.{block}
 use Rattle.ioapic.specs.Blocks.{onBlock}
 use Rattle.ioapic.specs.IoApic.{entry, dest, vect, acknowledged, eoiReceived, handed}
 use Rattle.ioapic.specs.Bus.{broadcast, sendIpi, sendEoi, deliver}
 use Rattle.layout.proofs.Blocks.{Has}
-use Rattle.ioapic.proofs.Header.{Kept, kept-ended, kept-handed, ended-entry}
+use Rattle.ioapic.proofs.Header.{Kept, kept-eoi-received, kept-handed, eoi-entry-at}
 use Rattle.ioapic.proofs.Blocks.{Sized, Wordly, block-agrees, onBlock-long, onBlock-same, onBlock-other, onBlock-header, onBlock-words, onBlocks-header, onBlocks-at, onBlocks-words}
 
 -- a function that is kept to the local APIC's words keeps length and words
@@ -57,7 +57,7 @@ module _ (n : ℕ) (t : List ℕ) (all : length t ≡ 32 + 256 * n) where
     f j b = receivedBy m (eqb j i) b
 
     local-f : (j : ℕ) → Local (f j)
-    local-f j b = kept-reached b m (eqb j i) hv
+    local-f j b = kept-received-by b m (eqb j i) hv
 
     idled : List ℕ
     idled = onBlock idle i t
@@ -102,18 +102,18 @@ module _ (n : ℕ) (t : List ℕ) (all : length t ≡ 32 + 256 * n) where
     pub eoi-entry : (k : ℕ) → k < 24 → entry (sendEoi i v t) k ≡ acknowledged v (entry t k)
     unfolding sendEoi sent
     eoi-entry k h =
-        ended-entry sent v k (omega (arith, sent-long)) h
+        eoi-entry-at sent v k (omega (arith, sent-long)) h
         ∙ ap (acknowledged v) (onBlock-header g (sized g local-g) t i (has i hi) (redirect + k) (omega arith))
 
     pub eoi-block : (j : ℕ) → j < n → block (sendEoi i v t) j ≡ (if eqb j i then eoiSent (block t j) v else block t j)
     unfolding sendEoi sent
     eoi-block j h =
-        block-agrees sent (eoiReceived sent v) j (kept-ended sent v .long) (λ x l. kept-ended sent v .same x (inr l)) (omega (arith, sent-long))
+        block-agrees sent (eoiReceived sent v) j (kept-eoi-received sent v .long) (λ x l. kept-eoi-received sent v .same x (inr l)) (omega (arith, sent-long))
         ∙ one g (sized g local-g) t i j (has i hi) (has j h)
 
     pub eoi-words : Words t → Words (sendEoi i v t)
     unfolding sendEoi sent
-    eoi-words w = kept-ended sent v .words (onBlock-words g (wordly g local-g) t i w)
+    eoi-words w = kept-eoi-received sent v .words (onBlock-words g (wordly g local-g) t i w)
 
   -- ---- ioapic-deliver
 

@@ -47,8 +47,6 @@ pub rfe-zero : (c : Registers) → gprAt (deltaRfe c) 0 ≡ gprAt c 0
 unfolding deltaRfe
 rfe-zero c = refl
 
--- ---- special registers
-
 -- ---- mul
 
 -- what mul leaves in HI and LO

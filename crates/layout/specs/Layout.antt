@@ -157,7 +157,7 @@ mode = 7
 
 -- ---- port addresses
 
--- the ports of a core's local APIC, and of the I/O APIC
+-- the ports of a core's local APIC (definition 70) and of the I/O APIC (definition 72)
 abbrev pub localPorts : ℕ
 localPorts = 0xFFFF_F000
 

@@ -26,7 +26,7 @@ use Rattle.apic.specs.declared.active.Ipi.{Ipi}
 use Rattle.apic.specs.LocalApic.{idOf, fixed, irr}
 use Rattle.apic.specs.Active.{idle, receivedBy, eoiSent, initCore, startCore}
 use Rattle.word.proofs.Bits.{put-below}
-use Rattle.apic.proofs.Kept.{Kept, Passive, Reset, kept-all, kept-if, kept-vector, kept-idle, kept-reached, kept-initCore, kept-startCore}
+use Rattle.apic.proofs.Kept.{Kept, Passive, Reset, kept-all, kept-if, kept-vector, kept-idle, kept-received-by, kept-initCore, kept-startCore}
 use Rattle.ioapic.specs.Blocks.{onBlock, onBlocks}
 use Rattle.ioapic.specs.IoApic.{entry, withEntry, dest, vect, rirr, ds, onEntries, acknowledged, eoiReceived, sampled, handed}
 use Rattle.ioapic.specs.Bus.{broadcast, sendIpi, sendEoi, deliver}
@@ -154,7 +154,7 @@ module _ (t : List ℕ) (n : ℕ) (e : sound t n ≡ true) where
   ipi-keeps k i h v =
       let K = on-block n idle (passive n idle kept-idle) t e k h in
       keeps-then K
-      (on-blocks n (λ (j : ℕ) (b : List ℕ). receivedBy i (eqb j k) b) (λ j. passive n (receivedBy i (eqb j k)) (λ b. kept-reached b i (eqb j k) v)) (onBlock idle k t) (K .is-sound) (coresOf t) (omega (arith, K .cores)))
+      (on-blocks n (λ (j : ℕ) (b : List ℕ). receivedBy i (eqb j k) b) (λ j. passive n (receivedBy i (eqb j k)) (λ b. kept-received-by b i (eqb j k) v)) (onBlock idle k t) (K .is-sound) (coresOf t) (omega (arith, K .cores)))
 
   pub eoi-keeps : (k v : ℕ) → k < coresOf t → v < 256 → Keeps n t (sendEoi k v t)
   unfolding sendEoi eoiReceived

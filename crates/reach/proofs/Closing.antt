@@ -11,6 +11,7 @@ use lib.ListN.{length, getD, replicate, length-replicate, getD-replicate, List·
 use Rattle.word.specs.Word.{if_then_else_, isSet, flag}
 use Rattle.word.proofs.Bytes.{Bytes}
 use Rattle.word.proofs.Truth.{and-left, or-assoc, or-none, or-turn}
+use Rattle.records.proofs.Counts.{either}
 use Rattle.layout.specs.Blocks.{block}
 use Rattle.records.specs.Records.{all, levelOf, walkIn, walkNumbers, storeNumbers}
 use Rattle.tables.specs.Views.{coresOf, pagesOf}
@@ -19,7 +20,7 @@ use Rattle.tables.proofs.Lift.{header}
 use Rattle.reach.specs.Lists.{range, has, select}
 use Rattle.reach.specs.Reach.{members, anyRights, grantsWrite, named, firstPages, secondPages, dataPages, writablePages, reach, inMemory, mapByte, mapFor}
 use Rattle.reach.specs.inner.Marks.{Name, name, marks, strays, Marked, isMarked, isWritten, byteOf, walkName, recordName, coreNames, memberNames, rootNames, entryNames, passNames}
-use Rattle.reach.proofs.Lists.{decided, Each, each-append, each-flatMap, if-both, has-append, all-append, all-same, flatMap-below, map-same, range-in}
+use Rattle.reach.proofs.Lists.{Each, each-append, each-flatMap, if-both, has-append, all-append, all-same, flatMap-below, map-same, range-in}
 use Rattle.reach.proofs.Marking.{marks-long}
 use Rattle.reach.proofs.Sets.{Proper, ofKind, written, pagesWith, with-none, with-cons, with-append, marks-marked, marks-written}
 use Rattle.reach.proofs.Passes.{pass-proper, pass-other}
@@ -99,8 +100,8 @@ outside-fewer n p q (y ∷ l) h =
 -- names are of one of three sets
 one-of-three : (k : ℕ) (o a b c : Bool) → k < 3 → ((eqb k 0 && o) || a) || (((eqb k 1 && o) || b) || ((eqb k 2 && o) || c)) ≡ o || (a || (b || c))
 one-of-three k o a b c h =
-    decided (ℕ-discrete k 0) (λ e. rw e (or-assoc o a (b || c)))
-    (λ d. decided (ℕ-discrete k 1) (λ e. rw e (second o a b c)) (λ f. let e : k ≡ 2 = omega arith in rw e (third o a b c)))
+    either (ℕ-discrete k 0) (λ e. rw e (or-assoc o a (b || c)))
+    (λ d. either (ℕ-discrete k 1) (λ e. rw e (second o a b c)) (λ f. let e : k ≡ 2 = omega arith in rw e (third o a b c)))
   where
     second : (o a b c : Bool) → a || ((o || b) || c) ≡ o || (a || (b || c))
     second true true b c = refl
@@ -347,4 +348,4 @@ pub zeros-long : length zeros ≡ 24576
 zeros-long = length-replicate {A = ℕ} 24576 0
 
 pub zeros-blank : (i : ℕ) → getD zeros i 0 ≡ 0
-zeros-blank i = decided (decLt i 24576) (λ h. getD-replicate {A = ℕ} 24576 i 0 0 h) (λ h. List·getD-eq-default zeros 0 {n = i} (omega (arith, zeros-long)))
+zeros-blank i = either (decLt i 24576) (λ h. getD-replicate {A = ℕ} 24576 i 0 0 h) (λ h. List·getD-eq-default zeros 0 {n = i} (omega (arith, zeros-long)))

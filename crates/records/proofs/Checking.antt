@@ -1,4 +1,4 @@
--- What the test of soundness is moved together from.
+-- What the test of soundness is put together from.
 use mathlib.Core.Path.{_≡_, refl, sym, ap, _∙_}
 use mathlib.Core.Logic.{_≢_}
 use Prim.Native.Nat.{ℕ, zero, suc, _+_, _-_, _<_, _≤_}

@@ -10,7 +10,7 @@ use lib.ListN.{length}
 use lib.Dec.{eqb}
 use borrow.Author.Tests.{eqb-true, eqb-false, eq-eqb}
 use Rattle.word.specs.Word.{flag}
-use Rattle.word.proofs.Truth.{and-left, and-right, and-both}
+use Rattle.word.proofs.Truth.{and-left, and-right, and-both, and-assoc}
 use Rattle.records.specs.Records.{count, each, all}
 
 pub count-append : (n : ℕ) (s t : List ℕ) → count n (s ++ t) ≡ count n s + count n t
@@ -60,11 +60,7 @@ all-intro p (x ∷ l) f = and-both (p x) (all p l) (f x (count-head x l)) (all-i
 pub all-append : (p : ℕ → Bool) (s t : List ℕ) → all p (s ++ t) ≡ all p s && all p t
 unfolding all
 all-append p [] t = refl
-all-append p (x ∷ s) t = ap (λ (r : Bool). p x && r) (all-append p s t) ∙ group (p x) (all p s) (all p t)
-  where
-    group : (a b c : Bool) → a && (b && c) ≡ (a && b) && c
-    group true b c = refl
-    group false b c = refl
+all-append p (x ∷ s) t = ap (λ (r : Bool). p x && r) (all-append p s t) ∙ and-assoc (p x) (all p s) (all p t)
 
 -- two tests of every element are one
 pub all-and : (p q : ℕ → Bool) (l : List ℕ) → all (λ n. p n && q n) l ≡ all p l && all q l

@@ -11,7 +11,8 @@ use Rattle.layout.specs.Layout.{storeHead, walkHead, freeHead}
 use Rattle.records.specs.declared.Store.{Store}
 use Rattle.records.specs.declared.Walk.{Walk}
 use Rattle.records.specs.declared.Flush.{Flush}
-use Rattle.records.specs.Records.{chainAt, storeIn, walkIn, stores, walks, linked, endOf, insert, among, goes, staying, withWalk, putStore, takeStore, addWalk, dropWalks}
+use Rattle.records.specs.Records.{chainAt, storeIn, walkIn, stores, walks, linked, endOf, insert, among, goes, putStore, takeStore, addWalk, dropWalks}
+use Rattle.records.specs.inner.Walks.{staying, withWalk}
 use Rattle.records.proofs.Three.{held}
 use Rattle.records.proofs.Good.{Good, good-linked, linked-good, all-31}
 use Rattle.records.proofs.Views.{storeOf, walkOf, stores-good, walks-good, map-append, map-kept, good-release-store, kept-rs, out-rs, good-insert-store, kept-is, out-is, new-store, good-insert-walk, kept-iw, out-iw, new-walk}

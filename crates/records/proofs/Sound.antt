@@ -9,7 +9,8 @@ use borrow.Author.Tests.{not-true}
 use Rattle.records.specs.declared.Store.{Store}
 use Rattle.records.specs.declared.Walk.{Walk}
 use Rattle.records.specs.declared.Flush.{Flush}
-use Rattle.records.specs.Records.{all, stores, walks, same, among, differing, goes, staying, withWalk, putStore, takeStore, addWalk, dropWalks}
+use Rattle.records.specs.Records.{all, stores, walks, same, among, differing, goes, putStore, takeStore, addWalk, dropWalks}
+use Rattle.records.specs.inner.Walks.{staying, withWalk}
 use Rattle.records.specs.Contents.{storeSound, walkSound, soundRecords}
 use Rattle.records.proofs.Laws.{After, take-law, put-law, add-law, drop-law}
 use Rattle.records.proofs.Contents.{parts-of, parts-all}

@@ -8,7 +8,8 @@ use lib.ListN.{getD}
 use Rattle.layout.specs.Layout.{recordAt, walkHead}
 use Rattle.records.specs.declared.Store.{Store}
 use Rattle.records.specs.declared.Walk.{Walk}
-use Rattle.records.specs.Records.{count, endOf, sweep, staying, release}
+use Rattle.records.specs.Records.{count, endOf, sweep, release}
+use Rattle.records.specs.inner.Walks.{staying}
 use Rattle.records.proofs.Three.{held}
 use Rattle.records.proofs.Good.{Good}
 use Rattle.records.proofs.Views.{storeOf, walkOf, map-append, map-kept, good-release-walk, kept-rw, out-rw}

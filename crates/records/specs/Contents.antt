@@ -1,4 +1,4 @@
--- What pending stores and walks may hold (01, 'Sound tables'; the report, section 5 and definition 4).
+-- What pending stores and walks may hold (01, 'Sound tables'; the report, section 5 and definitions 56, 71 and 73).
 -- Assumes nothing.
 use Prim.Native.Nat.{ℕ, zero, suc, _+_, _/_, _%_, _^_}
 use mathlib.Core.Bool.{Bool, true, _&&_, _||_}

@@ -51,7 +51,7 @@ stores b = map (storeIn b) (storeNumbers b)
 unfoldable pub walks : List ℕ → List Walk
 walks b = map (walkIn b) (walkNumbers b)
 
--- what stands past the end of the lists
+-- what stands past the end of a list of stores
 abbrev pub noStore : Store
 noStore = record { address = 0; value = 0; width = 0 }
 
@@ -160,10 +160,6 @@ takeStore b = release b storeHead
 unfoldable pub addWalk : List ℕ → Walk → List ℕ
 addWalk b w = elim (among w (walks b)) [ true ↦ b | false ↦ insert b walkHead (w .first) (w .second) 0 ]
 
--- the walks after it
-unfoldable pub withWalk : Walk → List Walk → List Walk
-withWalk w l = elim (among w l) [ true ↦ l | false ↦ w ∷ l ]
-
 -- a walk's first word is va * 4096 + asid * 64 + level * 8 + rights; its page and address space are one number, va * 64 + asid
 abbrev pub walkKey : ℕ → ℕ
 walkKey first = first / 64
@@ -185,8 +181,3 @@ sweep hit b at (x ∷ l) =
 
 unfoldable pub dropWalks : Flush → List ℕ → List ℕ
 dropWalks f b = sweep (goes f) b walkHead (walkNumbers b)
-
--- the walks that stay
-unfoldable pub staying : (ℕ → Bool) → List Walk → List Walk
-staying hit [] = []
-staying hit (w ∷ l) = elim (hit (w .first)) [ true ↦ staying hit l | false ↦ w ∷ staying hit l ]

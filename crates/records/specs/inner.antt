@@ -2,3 +2,4 @@
 -- Assumes nothing.
 pub mod Rules
 pub mod Tallied
+pub mod Walks

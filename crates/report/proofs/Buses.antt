@@ -31,7 +31,7 @@ use Rattle.apic.specs.LocalApic.{idOf, received}
 use Rattle.apic.specs.Active.{ipiOf, sending, idle, aimed, receivedBy, pendingEoi, eoiSent}
 use Rattle.word.proofs.Bits.{bit-lt, one-not-zero}
 use Rattle.word.proofs.Words.{Words}
-use Rattle.apic.proofs.Kept.{Kept, Passive, kept-all, kept-then, kept-idle, kept-received, kept-reached, kept-vector}
+use Rattle.apic.proofs.Kept.{Kept, Passive, kept-all, kept-then, kept-idle, kept-received, kept-received-by, kept-vector}
 use Rattle.apic.proofs.Least.{lowest-vector}
 use Rattle.ioapic.specs.Blocks.{onBlock}
 use Rattle.ioapic.specs.IoApic.{entry, vect, acknowledged, onEntries, eoiReceived}
@@ -348,7 +348,7 @@ module _ (t m : List ℕ) (e : sound t (length m) ≡ true) (ws : Words t) (k : 
             (sym (ne-eqb k j (λ r. eqb-false j k q (sym r)))) (other j g)
 
     ipi-runs : (j : ℕ) → j < coresOf t → runningOf (block u₂ j) ≡ runningOf (block t j)
-    ipi-runs j g = ap runningOf (ipi-block (coresOf t) t all₂ k h mm hv j g) ∙ kept-reached _ mm (eqb j k) hv .same 67 (inl (omega arith)) ∙ go (eqb j k)
+    ipi-runs j g = ap runningOf (ipi-block (coresOf t) t all₂ k h mm hv j g) ∙ kept-received-by _ mm (eqb j k) hv .same 67 (inl (omega arith)) ∙ go (eqb j k)
       where
         go : (s : Bool) → runningOf (if s then idle (block t j) else block t j) ≡ runningOf (block t j)
         go true = kept-idle (block t j) .same 67 (inl (omega arith))

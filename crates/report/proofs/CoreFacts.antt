@@ -36,7 +36,7 @@ use Rattle.report.proofs.Apics.{register-bit, least-same}
 use Rattle.report.proofs.CoreGuards.{off}
 use Rattle.report.proofs.Memory.{nothing, consulted, Judges, judges}
 
--- ---- a verdict, where a walk is consulted if u
+-- ---- whether it faults, where a walk is consulted if u
 
 module _ (m : List ℕ) (whole : length m % 4 ≡ 0) (u : Bool) (trq : Request) (w : Walk) where
   pub data Decides : Faulting → Type 0 where

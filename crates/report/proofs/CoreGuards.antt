@@ -7,7 +7,7 @@ use lib.Dec.{eqb}
 use lib.ListN.{length}
 use Rattle.word.specs.Word.{if_then_else_}
 use Rattle.word.proofs.Tests.{true-false, and-false}
-use Rattle.word.proofs.Truth.{and-both}
+use Rattle.word.proofs.Truth.{and-both, and-none}
 use Rattle.decode.specs.declared.Instruction.{Instruction}
 use Rattle.decode.specs.Table.{decoded}
 use Rattle.decode.specs.Mnemonics.{load, store, cas, mfence}
@@ -33,9 +33,6 @@ fails-so true b e f = f
 pub off : (a b : Bool) → a ≡ false → (a && b) ≡ false
 off false b e = refl
 off true b e = absurd (true-false e)
-
-off-right : (a b : Bool) → b ≡ false → (a && b) ≡ false
-off-right a b e = ap (λ (t : Bool). a && t) e ∙ and-false a
 
 -- ---- the guards at a word w, where there is one if f
 
@@ -116,28 +113,28 @@ module _ (c : Configuration) (i : ℕ) (wI wR : Walk) (f : Bool) (w : ℕ) where
   fails₁ e = past₃ (off G₁ G₂ e)
 
   pub fails₂ : G₂ ≡ false → guardsAt ≡ false
-  fails₂ e = past₃ (off-right G₁ G₂ e)
+  fails₂ e = past₃ (and-none G₁ G₂ e)
 
   pub fails₃ : G₃ ≡ false → guardsAt ≡ false
-  fails₃ e = past₄ (off-right (G₁ && G₂) G₃ e)
+  fails₃ e = past₄ (and-none (G₁ && G₂) G₃ e)
 
   pub fails₄ : G₄ ≡ false → guardsAt ≡ false
-  fails₄ e = past₅ (off-right (G₁ && G₂ && G₃) G₄ e)
+  fails₄ e = past₅ (and-none (G₁ && G₂ && G₃) G₄ e)
 
   pub fails₅ : G₅ ≡ false → guardsAt ≡ false
-  fails₅ e = past₆ (off-right (G₁ && G₂ && G₃ && G₄) G₅ e)
+  fails₅ e = past₆ (and-none (G₁ && G₂ && G₃ && G₄) G₅ e)
 
   pub fails₆ : G₆ ≡ false → guardsAt ≡ false
-  fails₆ e = past₇ (off-right (G₁ && G₂ && G₃ && G₄ && G₅) G₆ e)
+  fails₆ e = past₇ (and-none (G₁ && G₂ && G₃ && G₄ && G₅) G₆ e)
 
   pub fails₇ : G₇ ≡ false → guardsAt ≡ false
-  fails₇ e = past₈ (off-right (G₁ && G₂ && G₃ && G₄ && G₅ && G₆) G₇ e)
+  fails₇ e = past₈ (and-none (G₁ && G₂ && G₃ && G₄ && G₅ && G₆) G₇ e)
 
   pub fails₈ : G₈ ≡ false → guardsAt ≡ false
-  fails₈ e = past₉ (off-right (G₁ && G₂ && G₃ && G₄ && G₅ && G₆ && G₇) G₈ e)
+  fails₈ e = past₉ (and-none (G₁ && G₂ && G₃ && G₄ && G₅ && G₆ && G₇) G₈ e)
 
   pub fails₉ : G₉ ≡ false → guardsAt ≡ false
-  fails₉ e = off-right (G₁ && G₂ && G₃ && G₄ && G₅ && G₆ && G₇ && G₈) G₉ e
+  fails₉ e = and-none (G₁ && G₂ && G₃ && G₄ && G₅ && G₆ && G₇ && G₈) G₉ e
 
 -- the report's guards are those at what is fetched
 module _ (c : Configuration) (i : ℕ) (wI wR : Walk) where

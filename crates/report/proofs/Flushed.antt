@@ -11,7 +11,8 @@ use Rattle.word.proofs.Tests.{true-false, and-false}
 use Rattle.word.proofs.Truth.{and-left, and-right}
 use Rattle.records.specs.declared.Walk.{Walk}
 use Rattle.records.specs.declared.Flush.the-variants.{All, Page, Incomplete}
-use Rattle.records.specs.Records.{same, among, goes, staying}
+use Rattle.records.specs.Records.{same, among, goes}
+use Rattle.records.specs.inner.Walks.{staying}
 use Rattle.tlb.specs.Walks.{walkVa, walkAsid, complete, pageKey}
 use Rattle.tlb.specs.inner.Flushes.{keep}
 use Rattle.tlb.proofs.Fields.{same-walk}

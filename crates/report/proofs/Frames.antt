@@ -12,7 +12,7 @@ use native.Mathlib.Omega.{arith}
 use borrow.Author.Tests.{ltb-true, ltb-false, eqb-true, eqb-false}
 use Rattle.word.specs.Word.{if_then_else_, isSet}
 use Rattle.word.proofs.Tests.{or-false}
-use Rattle.word.proofs.Truth.{and-left, and-right, and-both}
+use Rattle.word.proofs.Truth.{and-left, and-right, and-both, or-other}
 use Rattle.layout.specs.Layout as at
 use Rattle.layout.specs.Blocks.{block, withBlock}
 use Rattle.layout.proofs.Blocks.{with-long, with-header, with-block, with-other}
@@ -44,7 +44,6 @@ use Rattle.cores.specs.declared.Plan.{Plan}
 use Rattle.cores.specs.Commit.{coreAfter, bufferAfter, walksAfter, portAfter, blockAfter, headerAfter, tablesByPlan, memoryByPlan}
 use Rattle.cores.specs.inner.Ready.{bufferReady, walksReady, portReady, ready}
 use Rattle.cores.proofs.Changes.{Full, effect-full, jisr-full, rfe-full, buffer-asks, walks-ask}
-use Rattle.cores.proofs.Adding.{or-other}
 use Rattle.cores.proofs.Sounds.{Shows, plan-shows, storeBrought, walkBrought, registersAfter, storesAfter, tlbAfter, planSound}
 use Rattle.cores.proofs.Decisions.{MayBeDone}
 use Rattle.cores.proofs.Locals.{isIo, header-still, plan-long, tables-own, tables-other, tables-local}

@@ -11,6 +11,7 @@ use lib.ListN.{getD, take, drop, replicate, length-take, length-drop, getD-repli
 use lib.Seq.{getD-take, getD-drop}
 use borrow.Author.Tests.{eqb-true}
 use Rattle.word.specs.Word.{bit}
+use Rattle.word.proofs.Bits.{bit-zero}
 use Rattle.layout.specs.Layout as at
 use Rattle.layout.specs.Blocks.{block}
 use Rattle.isa.specs.declared.registers.Registers.{Registers}
@@ -25,10 +26,6 @@ use Rattle.report.specs.Components.{bytes, ID, ICR, bitAt, irr, isr}
 use Rattle.report.specs.View.{apicOf, processorOf, ioapicOf, view}
 use Rattle.report.specs.Demands.{Reset, Resets}
 use Rattle.report.proofs.Frames.{redirect-at}
-
--- no bit of 0 is set
-no-bit : (k : ℕ) → bit 0 k ≡ 0
-no-bit k = ap (λ (n : ℕ). n % 2) (zero-div (2 ^ k))
 
 -- ---- a block: the ports but for the ID
 
@@ -50,7 +47,7 @@ no-port i x l h =
 
 no-vector : (r i j : ℕ) → 4 ≤ r → r ≤ 48 → j < 256 → bitAt r (apicOf (madeBlock i)) j ≡ 0
 unfolding apicOf
-no-vector r i j l h k = ap (λ (n : ℕ). bit n (j % 8)) (no-port i (r + j / 8) (omega arith) (omega arith)) ∙ no-bit (j % 8)
+no-vector r i j l h k = ap (λ (n : ℕ). bit n (j % 8)) (no-port i (r + j / 8) (omega arith) (omega arith)) ∙ bit-zero (j % 8)
 
 no-icr : (i : ℕ) → ICR (apicOf (madeBlock i)) ≡ 0
 unfolding bytes apicOf madeBlock chained
@@ -73,7 +70,7 @@ header-word n p (suc zero) l h = absurd (omega arith)
 header-word n p (suc (suc x)) l h = List·getD-append (replicate 30 0) (madeBlocks n) 0 x (omega arith) ∙ getD-replicate 30 x 0 0 (omega arith)
 
 entry-bit : (n p k j : ℕ) → k < 24 → bit (ioapicOf (made n p) .redirect k) j ≡ 0
-entry-bit n p k j h = ap (λ (x : ℕ). bit x j) (redirect-at (made n p) k h ∙ header-word n p (6 + k) (omega arith) (omega arith)) ∙ no-bit j
+entry-bit n p k j h = ap (λ (x : ℕ). bit x j) (redirect-at (made n p) k h ∙ header-word n p (6 + k) (omega arith) (omega arith)) ∙ bit-zero j
 
 module _ (n p : ℕ) (some : 1 ≤ n) (few : n ≤ 4) (m : List ℕ) (M : ℕ → ℕ) where
   is : (i : ℕ) → i < n → block (made n p) i ≡ madeBlock i
@@ -106,7 +103,7 @@ module _ (n p : ℕ) (some : 1 ≤ n) (few : n ≤ 4) (m : List ℕ) (M : ℕ �
         ISR = λ i h j l. ap (λ (b : List ℕ). bitAt isr (apicOf b) j) (is i h) ∙ no-vector isr i j (omega arith) (omega arith) l;
         ICR-zero = λ i h. ap (λ (b : List ℕ). ICR (apicOf b)) (is i h) ∙ no-icr i;
         APIC-ID = λ i h. ap (λ (b : List ℕ). ID (apicOf b)) (is i h) ∙ id-is i (omega arith);
-        dev = λ k h. ap (λ (x : ℕ). eqb x 1) (no-bit k);
+        dev = λ k h. ap (λ (x : ℕ). eqb x 1) (bit-zero k);
       }
 
 pub resets : Resets

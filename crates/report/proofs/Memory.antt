@@ -192,7 +192,7 @@ module _ (f : ℕ → ℕ) (trq : Request) (w : Walk) where
       go true h e = refl
 
 module _ (m : List ℕ) (whole : length m % 4 ≡ 0) (trq : Request) (w : Walk) where
-  -- what the verdict says of the report's fault, and which bytes it needs
+  -- what the machine's fault says of the report's, and which bytes it needs
   pub data Judges : Faulting → Type 0 where
     passes : ((M : ℕ → ℕ) → fault (memoryOf m M) trq w ≡ false) → (consulted trq w ≡ true → ptea w + 4 ≤ length m) → Judges Passes
     faults : ((M : ℕ → ℕ) → fault (memoryOf m M) trq w ≡ true) → consulted trq w ≡ true → ptea w + 4 ≤ length m → Judges Faults

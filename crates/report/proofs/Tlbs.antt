@@ -15,7 +15,8 @@ use Rattle.word.proofs.Tests.{true-false, or-false}
 use Rattle.layout.specs.Layout as at
 use Rattle.layout.specs.Blocks.{block}
 use Rattle.records.specs.declared.Walk.{Walk}
-use Rattle.records.specs.Records.{walks, same, among, withWalk}
+use Rattle.records.specs.Records.{walks, same, among}
+use Rattle.records.specs.inner.Walks.{withWalk}
 use Rattle.tables.specs.Views.{coresOf, userMode, runs, asidOf}
 use Rattle.tables.specs.Sound.{sound}
 use Rattle.tables.proofs.Lift.{core-long, core-sound}
@@ -28,7 +29,7 @@ use Rattle.tables.proofs.Shown.{special-at}
 use Rattle.tlb.specs.Steps.{originOf, extendable, tlbCreate, onExtend, tlbExtend, onAccessed, tlbAccessed}
 use Rattle.tlb.proofs.Fields.{same-walk, ptea-aligned, ptea-low}
 use Rattle.word.proofs.Words.{Words}
-use Rattle.word.proofs.Truth.{and-left, and-right, or-turn}
+use Rattle.word.proofs.Truth.{and-left, and-right, or-turn, and-turn}
 use Rattle.ioapic.proofs.Blocks.{block-words}
 use Rattle.steps.specs.declared.Answer.the-variants.{Refused}
 use Rattle.steps.specs.declared.Step.{Step}
@@ -219,19 +220,13 @@ and-assoc : (a b c : Bool) → (a && b) && c ≡ a && (b && c)
 and-assoc true b c = refl
 and-assoc false b c = refl
 
-and-comm : (a b : Bool) → a && b ≡ b && a
-and-comm true true = refl
-and-comm true false = refl
-and-comm false true = refl
-and-comm false false = refl
-
 and-swap : (a b c : Bool) → a && (b && c) ≡ b && (a && c)
-and-swap a b c = sym (and-assoc a b c) ∙ ap (λ (x : Bool). x && c) (and-comm a b) ∙ and-assoc b a c
+and-swap a b c = sym (and-assoc a b c) ∙ ap (λ (x : Bool). x && c) (and-turn a b) ∙ and-assoc b a c
 
 -- ---- tlb-extend
 
 order₂ : (a b c d f r : Bool) → (a && b && c && d && f && r) ≡ ((r && (a && (b && c))) && (d && f))
-order₂ a b c d f r = simp (and-assoc, and-comm, and-swap)
+order₂ a b c d f r = simp (and-assoc, and-turn, and-swap)
 
 module _ (t m : List ℕ) (e : sound t (length m) ≡ true) (bs : Bytes m) (k : ℕ) (h : k < coresOf t) (w : Walk) where
   abbrev b₂ : List ℕ

@@ -8,7 +8,7 @@ use Prim.Native.Nat.{ℕ, _/_, _%_, _<_, _≤_}
 use native.Mathlib.Omega.{arith}
 use lib.ListN.{length, getD}
 use Rattle.word.specs.Word.{if_then_else_, isSet}
-use Rattle.word.proofs.Truth.{and-left, and-right, or-cases, or-none-left, or-none-right}
+use Rattle.word.proofs.Truth.{and-left, and-right, or-cases, or-none-left, or-none-right, clash}
 use Rattle.layout.specs.Layout.{pageBytes}
 use Rattle.layout.specs.Blocks.{block}
 use Rattle.records.specs.Records.{all}
@@ -20,9 +20,9 @@ use Rattle.tlb.specs.Walks.{set-d}
 use Rattle.reach.specs.Lists.{range, has}
 use Rattle.reach.specs.Reach.{Pages, tablePages, reached, reach, inMemory, members, isGroup}
 use Rattle.separation.specs.declared.Verdict.the-variants.{Yes, No, Refused}
-use Rattle.separation.specs.Apart.{apart, pagesApart, apartOn, running, rest, runsAsUser, disjoint, closed}
+use Rattle.separation.specs.Apart.{apart, pagesApart, apartOn, runningCores, rest, runsAsUser, disjoint, closed}
 use Rattle.separation.specs.Separation.{Machine, Given, verdict, Point, start, group, others, tableBit, writableBit, either, Framed}
-use Rattle.reach.proofs.Lists.{clash, In, in-left, in-right, in-append, in-range, range-in, in-select, select-in, disjoint-in, all-in}
+use Rattle.reach.proofs.Lists.{In, in-left, in-right, in-append, in-range, range-in, in-select, select-in, disjoint-in, all-in}
 use Rattle.separation.proofs.Memory.{page, Moved, still, free, marked, kept-refl}
 use Rattle.separation.proofs.Good.{Good, Low, table-reached, writable-reached}
 use Rattle.separation.proofs.Closing.{closed-reach, good-reach}
@@ -115,7 +115,7 @@ module _ (g : ℕ) (M : Machine) (I : Given M) (e : verdict g M ≡ Yes) where
       (and-right (runs (block (M .tables) k)) _ (all-in (runsAsUser (M .tables)) (group g M ++ others g M) k (conditions .user) u))
 
   pub start-within : Within g G R (coresOf (M .tables)) (M .memory) (start M)
-  unfolding running rest members
+  unfolding runningCores rest members
   start-within =
       record {
         sane = conditions .sane;
@@ -126,15 +126,15 @@ module _ (g : ℕ) (M : Machine) (I : Given M) (e : verdict g M ≡ Yes) where
         cores = λ k h. side k h (isSet g k) refl;
       }
     where
-      there : (k : ℕ) → In k (running (M .tables)) → k < coresOf (M .tables)
+      there : (k : ℕ) → In k (runningCores (M .tables)) → k < coresOf (M .tables)
       there k h = range-in (coresOf (M .tables)) k (select-in (λ j. runs (block (M .tables) j)) (range (coresOf (M .tables))) k h .0)
 
-      side : (k : ℕ) → In k (running (M .tables)) → (b : Bool) → isSet g k ≡ b → Good (if isSet g k then G else R) (block (M .tables) k)
+      side : (k : ℕ) → In k (runningCores (M .tables)) → (b : Bool) → isSet g k ≡ b → Good (if isSet g k then G else R) (block (M .tables) k)
       side k h true i =
           let r : In k (group g M) = in-select (λ j. isSet g j) (range (coresOf (M .tables))) k (in-range (coresOf (M .tables)) k (there k h)) i in
           rw i (owned (group g M) k r (there k h) (in-left k (group g M) (others g M) r))
       side k h false i =
-          let r : In k (others g M) = in-select (λ j. not (isSet g j)) (running (M .tables)) k h (ap not i) in
+          let r : In k (others g M) = in-select (λ j. not (isSet g j)) (runningCores (M .tables)) k h (ap not i) in
           rw i (owned (others g M) k r (there k h) (in-right k (group g M) (others g M) r))
 
   -- ---- the frame holds where the invariant does

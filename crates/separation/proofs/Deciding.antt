@@ -1,4 +1,4 @@
--- What the functions inside apart answer (specs/Sides), tied to Apart.
+-- What the functions inside apart answer (specs/inner/Sides), tied to Apart.
 -- Assumes nothing.
 use mathlib.Core.Path.{_≡_, refl, sym, ap, ap₂, subst, _∙_}
 use mathlib.Core.Bool.{Bool, true, false, _&&_, _||_, not}
@@ -13,17 +13,17 @@ use lib.Seq.{length-take-le}
 use lib.Dec.{eqb}
 use borrow.Author.Tests.{not-true, not-false}
 use Rattle.word.specs.Word.{isSet, flag, if_then_else_, withBit}
-use Rattle.word.proofs.Truth.{and-left, and-right, and-both, tested, and-true}
+use Rattle.word.proofs.Truth.{and-left, and-right, and-both, tested, and-true, clash}
 use Rattle.layout.specs.Blocks.{block}
 use Rattle.records.specs.Records.{all}
-use Rattle.records.proofs.Counts.{all-and}
+use Rattle.records.proofs.Counts.{all-and, either}
 use Rattle.tables.specs.Views.{coresOf, pagesOf, runs}
 use Rattle.tables.specs.Sound.{sound}
 use Rattle.word.proofs.Bits.{bit-same, bit-other}
 use Rattle.reach.specs.Lists.{range, has, select}
 use Rattle.reach.specs.Reach.{Pages, isGroup, members, tablePages, reached, reach, inMemory, mapByte, mapFor}
-use Rattle.reach.proofs.Lists.{decided, clash, In, in-right, in-range, range-in, all-in, in-all, all-append, both-ways, has-append, select-same}
-use Rattle.separation.specs.Apart.{running, rest, runsAsUser, disjoint, closed, pagesApart, apart, apartOn}
+use Rattle.reach.proofs.Lists.{In, in-right, in-range, range-in, all-in, in-all, all-append, both-ways, has-append, select-same}
+use Rattle.separation.specs.Apart.{runningCores, rest, runsAsUser, disjoint, closed, pagesApart, apart, apartOn}
 use Rattle.separation.specs.declared.Verdict.the-variants.{Yes, No, Refused}
 use Rattle.separation.specs.inner.Sides.{passes, both, pageApart}
 use Rattle.separation.proofs.Mapped.{marked-is, byte-in, byte-table, byte-writable, reached-low}
@@ -98,7 +98,7 @@ flag-bit false = refl
 pub others-next : (g : ℕ) (t : List ℕ) (r k : ℕ) → Others g t r k → Others g t (withBit r k (flag (isOther g t k))) (k + 1)
 others-next g t r k o =
     record {
-      bits = λ j h. decided (ℕ-discrete j k)
+      bits = λ j h. either (ℕ-discrete j k)
           (λ e. subst (λ (i : ℕ). isSet (withBit r k (flag (isOther g t k))) i ≡ isOther g t i) (sym e)
           (ap (λ (x : ℕ). eqb x 1) (bit-same r k (flag (isOther g t k)) (flag-small (isOther g t k))) ∙ flag-bit (isOther g t k)))
           (λ d. ap (λ (x : ℕ). eqb x 1) (bit-other r k (flag (isOther g t k)) (flag-small (isOther g t k)) j d) ∙ o .bits j (omega arith));
@@ -118,14 +118,14 @@ others-put {g} {t} {r} {k} {s} {i} {u} p q e o =
     subst (λ (n : ℕ). Others g t n (k + 1)) (sym (e ∙ ap (withBit r k) (byte-flag (not i && u) ∙ ap₂ (λ (a b : Bool). flag (not a && b)) p q))) (others-next g t r k o)
 
 pub others-all : (g : ℕ) (t : List ℕ) (r : ℕ) → Others g t r (coresOf t) → members r (coresOf t) ≡ rest g t
-unfolding members rest running
+unfolding members rest runningCores
 others-all g t r o =
     select-same (λ j. isSet r j) (isOther g t) (range (coresOf t)) (λ j h. o .bits j (range-in (coresOf t) j h))
     ∙ sym (select-select (λ j. not (isSet g j)) (λ j. runs (block t j)) (range (coresOf t)))
 
 -- every core of both sides is running in user mode
 pub users-are : (g : ℕ) (t : List ℕ) → all (runsAsUser t) (members g (coresOf t) ++ rest g t) ≡ all (passes g t) (range (coresOf t))
-unfolding members rest running
+unfolding members rest runningCores
 users-are g t =
     all-append (runsAsUser t) (select (λ k. isSet g k) (range (coresOf t))) (select (λ k. not (isSet g k)) (select (λ k. runs (block t k)) (range (coresOf t))))
     ∙ ap₂ _&&_ (all-select (runsAsUser t) (λ k. isSet g k) (range (coresOf t)))

@@ -15,7 +15,8 @@ use Rattle.word.proofs.Truth.{or-cases}
 use Rattle.layout.specs.Layout as at
 use Rattle.records.specs.declared.Walk.{Walk}
 use Rattle.records.specs.declared.Store.{Store}
-use Rattle.records.specs.Records.{stores, walks, among, same, withWalk, staying}
+use Rattle.records.specs.Records.{stores, walks, among, same}
+use Rattle.records.specs.inner.Walks.{withWalk, staying}
 use Rattle.records.specs.Contents.{localPort, ioPort}
 use Rattle.records.proofs.Facts.{same-walk}
 use Rattle.tables.specs.Views.{registersOf, userMode}

@@ -12,12 +12,13 @@ use lib.Seq.{getD-at}
 use lib.Dec.{eqb, ltb, leb}
 use borrow.Author.Tests.{ltb-true, ltb-false, leb-true, leb-false}
 use Rattle.word.specs.Word.{flag, isSet}
-use Rattle.word.proofs.Truth.{and-right, tested}
+use Rattle.word.proofs.Truth.{and-right, tested, clash}
+use Rattle.records.proofs.Counts.{either}
 use Rattle.records.proofs.Views.{map-append}
 use Rattle.tables.specs.Views.{pagesOf}
 use Rattle.reach.specs.Lists.{range, has, select}
 use Rattle.reach.specs.Reach.{Pages, tablePages, reached, reach, inMemory, mapByte, mapFor, members, isGroup}
-use Rattle.reach.proofs.Lists.{decided, clash, In, in-left, in-right, range-in, select-append, select-same, all-in, has-append}
+use Rattle.reach.proofs.Lists.{In, in-left, in-right, range-in, select-append, select-same, all-in, has-append}
 
 -- ---- bytes of the map
 
@@ -34,7 +35,7 @@ unfolding range
 map-at f zero p h = absurd (omega arith)
 map-at f (suc n) p h =
     ap (λ (l : List ℕ). getD l p 0) (map-append f (range n) (n ∷ []))
-    ∙ decided (ℕ-discrete p n)
+    ∙ either (ℕ-discrete p n)
     (λ e. getD-at (map f (range n)) (f n) [] 0 p (map-long f n ∙ sym e) ∙ sym (ap f e))
     (λ d. List·getD-append (map f (range n)) (f n ∷ []) 0 p (omega (arith, map-long f n)) ∙ map-at f n p (omega arith))
 

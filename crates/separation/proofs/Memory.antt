@@ -11,10 +11,12 @@ use lib.Dec.{ltb, leb}
 use borrow.Author.Tests.{ltb-true, ltb-false, lt-ltb, le-ltb, le-leb, lt-leb}
 use Rattle.word.specs.Bytes.{put, bytesAt}
 use Rattle.word.proofs.Bytes.{Bytes}
-use Rattle.word.proofs.Truth.{tested}
+use Rattle.word.proofs.Truth.{tested, clash}
+use Rattle.word.proofs.Laws.{ltb-same}
+use Rattle.records.proofs.Counts.{either}
 use Rattle.tlb.specs.Walks.{set-d, entryAt}
 use Rattle.tlb.proofs.Entries.{set-d-twice, mark-memory, entry-same}
-use Rattle.reach.proofs.Lists.{decided, clash, In}
+use Rattle.reach.proofs.Lists.{In}
 
 abbrev pub page : ℕ → ℕ
 page a = a / 4096
@@ -57,7 +59,7 @@ module _ (ps m n : List ℕ) (g : Agree ps m n) where
 set-same : (m n : List ℕ) (i v a : ℕ) → Same m n a → Same (set m i v) (set n i v) a
 set-same m n i v a s =
     record {
-      byte = decided (ℕ-discrete a i) here (λ d. getD-set-other m i a v 0 d ∙ s .byte ∙ sym (getD-set-other n i a v 0 d));
+      byte = either (ℕ-discrete a i) here (λ d. getD-set-other m i a v 0 d ∙ s .byte ∙ sym (getD-set-other n i a v 0 d));
       there = ap (ltb a) (length-set m i v) ∙ s .there ∙ sym (ap (ltb a) (length-set n i v));
     }
   where
@@ -132,7 +134,7 @@ set-moved : (ts ws m : List ℕ) (i v : ℕ) → Moved ts ws i (getD m i 0) v �
 set-moved ts ws m i v h =
     record {
       size = length-set m i v;
-      byte = λ a. decided (ℕ-discrete a i) (here a) (λ d. still (getD-set-other m i a v 0 d));
+      byte = λ a. either (ℕ-discrete a i) (here a) (λ d. still (getD-set-other m i a v 0 d));
     }
   where
     here : (a : ℕ) → a ≡ i → Moved ts ws a (getD m a 0) (getD (set m i v) a 0)
@@ -157,7 +159,7 @@ put-mark ts ws m a b h p = rw (mark-memory m a b) (set-moved ts ws m a (set-d (g
 -- bytes stay bytes
 set-bytes : (m : List ℕ) (i v : ℕ) → Bytes m → v < 256 → Bytes (set m i v)
 set-bytes m i v b h j =
-    decided (ℕ-discrete j i)
+    either (ℕ-discrete j i)
     (λ e. tested (ltb i (length m))
     (λ t. let f : getD (set m i v) j 0 ≡ v = ap (λ (x : ℕ). getD (set m i v) x 0) e ∙ getD-set-same m i v 0 (ltb-true _ _ t) in omega (arith, f))
     (λ t. let f : getD (set m i v) j 0 ≡ getD m j 0 = ap (λ (l : List ℕ). getD l j 0) (set-out m i v (ltb-false _ _ t)) in omega (arith, f, b j)))
@@ -178,18 +180,12 @@ bytes-at m p i h = getD-take 4096 (drop (4096 * p) m) i 0 h ∙ getD-drop (4096 
 bytes-length : (m : List ℕ) (p : ℕ) → length (bytesOf m p) ≡ min 4096 (length m - 4096 * p)
 bytes-length m p = length-take 4096 (drop (4096 * p) m) ∙ ap (min 4096) (length-drop (4096 * p) m)
 
-ltb-iff : (a b c d : ℕ) → (a < b → c < d) → (c < d → a < b) → ltb a b ≡ ltb c d
-ltb-iff a b c d f g =
-    tested (ltb a b)
-    (λ t. t ∙ sym (lt-ltb c d (f (ltb-true a b t))))
-    (λ t. t ∙ sym (tested (ltb c d) (λ u. absurd (clash (ltb a b) (lt-ltb a b (g (ltb-true c d u))) t)) (λ u. u)))
-
 pub page-same : (m n : List ℕ) (p a : ℕ) → bytesOf m p ≡ bytesOf n p → page a ≡ p → Same m n a
 page-same m n p a e q =
     record {
       byte = at m ∙ ap (λ (l : List ℕ). getD l (a % 4096) 0) e ∙ sym (at n);
       there =
-          ltb-iff a (length m) a (length n)
+          ltb-same a (length m) a (length n)
           (λ h. omega (arith, bytes-length m p, bytes-length n p, ap (λ (l : List ℕ). length l) e))
           (λ h. omega (arith, bytes-length m p, bytes-length n p, ap (λ (l : List ℕ). length l) e));
     }

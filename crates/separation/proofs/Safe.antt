@@ -9,10 +9,11 @@ use native.Mathlib.Omega.{arith}
 use lib.ListN.{length, set}
 use lib.Dec.{eqb, leb}
 use borrow.Author.Tests.{eqb-true, leb-true, eq-eqb, not-false}
+use Rattle.word.proofs.Tests.{and-false}
 use Rattle.word.specs.Word.{if_then_else_, flag}
 use Rattle.word.specs.Bytes.{bytesAt}
 use Rattle.word.proofs.Bytes.{Bytes}
-use Rattle.word.proofs.Truth.{and-left, and-right, or-cases, or-first, or-none-left, or-none-right}
+use Rattle.word.proofs.Truth.{and-left, and-right, or-cases, or-first, or-none-left, or-none-right, clash}
 use Rattle.decode.specs.declared.Instruction.{Instruction}
 use Rattle.decode.specs.Table.{decoded}
 use Rattle.decode.specs.Fields.{rs, rd, rt}
@@ -65,7 +66,7 @@ use Rattle.cores.proofs.Sounds.{registersAfter}
 use Rattle.cores.proofs.Accesses.{access-aligned, cas-width}
 use Rattle.reach.specs.Reach.{Pages, tablePages, grantsWrite}
 use Rattle.separation.specs.Separation.{isInterrupt}
-use Rattle.reach.proofs.Lists.{clash, if-both, In, Each}
+use Rattle.reach.proofs.Lists.{if-both, In, Each}
 use Rattle.separation.proofs.Memory.{page, Fits, same-page, Kept, kept-refl, put-free, put-mark}
 use Rattle.separation.proofs.Good.{AtLevel, WalkOk, StoreOk, Good, Closed, Low, low-local, low-io, writable-reached, walk-table, walk-page}
 use Rattle.cores.proofs.Asked.{Judges, judges-yield, judges-ask, judges-test, judges-if, judges-settle}
@@ -111,11 +112,7 @@ no-privilege i c w io pfls u j =
     user-or (user c) (privileged i) (ill i) u (flag-none (ill i || (user c && privileged i)) (omega arith))
 
 not-special : (i : Instruction) → privileged i ≡ false → movg2s i || eret i ≡ false
-not-special i p = sym (special-or i) ∙ ap (λ (t : Bool). (movg2s i || eret i) && t) p ∙ and-none (movg2s i || eret i)
-  where
-    and-none : (t : Bool) → t && false ≡ false
-    and-none true = refl
-    and-none false = refl
+not-special i p = sym (special-or i) ∙ ap (λ (t : Bool). (movg2s i || eret i) && t) p ∙ and-false (movg2s i || eret i)
 
 leaves-special : (i : Instruction) (w R : ℕ) (c : Registers) → movg2s i || eret i ≡ false → registersAfter (changed i w R) c .spr ≡ c .spr
 leaves-special i w R c e = go (eret i) (movg2s i) (or-none-right (movg2s i) (eret i) e) (or-none-left (movg2s i) (eret i) e)

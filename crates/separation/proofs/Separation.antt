@@ -13,7 +13,7 @@ use Rattle.tables.specs.Views.{coresOf, pagesOf}
 use Rattle.reach.specs.Lists.{range, has, select}
 use Rattle.reach.specs.Reach.{Pages, reached, reach, inMemory, members}
 use Rattle.separation.specs.declared.Verdict.the-variants.{Yes}
-use Rattle.separation.specs.Separation.{Machine, Given, verdict, Point, View, start, called, next, afterCalls, may, admitted, isOwn, pageOf, seen, observed, observes, group, reachable, Alike, Framed, Demand3}
+use Rattle.separation.specs.Separation.{Machine, Given, verdict, Point, Observation, start, called, next, afterCalls, may, admitted, isOwn, pageOf, seen, observed, observes, group, reachable, Alike, Framed, Demand3}
 use Rattle.reach.proofs.Lists.{In, in-range, in-select, select-in, same-map}
 use Rattle.separation.proofs.TwoLists.{trace, allowed, two-lists, kept-after}
 use Rattle.separation.proofs.TwoLists as lists
@@ -57,7 +57,7 @@ module _ (g : ℕ) (M N : Machine) (I : Given M) (J : Given N) (e : verdict g M 
   cores-same = members-same g (coresOf (M .tables)) (coresOf (N .tables)) (conditions g M I e .is-group) (conditions g N J f .is-group)
 
   blocks-same : (k : ℕ) → In k (group g M) → block (M .tables) k ≡ block (N .tables) k
-  blocks-same = same-map (block (M .tables)) (block (N .tables)) (group g M) (ap (λ (x : View). x .blocks) v)
+  blocks-same = same-map (block (M .tables)) (block (N .tables)) (group g M) (ap (λ (x : Observation). x .blocks) v)
 
   inM : (k : ℕ) → isSet g k ≡ true → k < coresOf (M .tables)
   inM k h = group-there g (coresOf (M .tables)) k (conditions g M I e .is-group) h
@@ -85,7 +85,7 @@ module _ (g : ℕ) (M N : Machine) (I : Given M) (J : Given N) (e : verdict g M 
   memory-same : Agree (reached (G g M I e)) (M .memory) (N .memory)
   memory-same a h =
       page-same (M .memory) (N .memory) (page a) a
-      (ap (λ x. x .1) (same-map (λ p. (p, pageOf (M .memory) p)) (λ p. (p, pageOf (N .memory) p)) (reachable g M) (ap (λ (x : View). x .pages) v) (page a) (in-shown (page a) h))) refl
+      (ap (λ x. x .1) (same-map (λ p. (p, pageOf (M .memory) p)) (λ p. (p, pageOf (N .memory) p)) (reachable g M) (ap (λ (x : Observation). x .pages) v) (page a) (in-shown (page a) h))) refl
 
   pages-same : G g M I e ≡ G g N J f
   pages-same =

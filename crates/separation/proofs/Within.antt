@@ -12,7 +12,8 @@ use lib.Dec.{eqb, leb}
 use borrow.Author.Tests.{eqb-false, not-true}
 use Rattle.word.specs.Word.{if_then_else_, isSet}
 use Rattle.word.proofs.Bytes.{Bytes}
-use Rattle.word.proofs.Truth.{and-left, and-right, tested}
+use Rattle.word.proofs.Truth.{and-left, and-right, tested, clash}
+use Rattle.records.proofs.Counts.{either}
 use Rattle.layout.specs.Blocks.{block}
 use Rattle.tables.specs.Views.{coresOf}
 use Rattle.tables.specs.Sound.{sound}
@@ -20,7 +21,7 @@ use Rattle.steps.specs.Form.{word}
 use Rattle.reach.specs.Lists.{select}
 use Rattle.reach.specs.Reach.{Pages, tablePages, reached}
 use Rattle.separation.specs.Separation.{Point, called, isInterrupt, next, may, isOwn, seen}
-use Rattle.reach.proofs.Lists.{decided, clash, In, in-left, in-right, in-append, select-in, map-same}
+use Rattle.reach.proofs.Lists.{In, in-left, in-right, in-append, select-in, map-same}
 use Rattle.separation.proofs.TwoLists.{Keeps}
 use Rattle.separation.proofs.Memory.{Agree, Kept, kept-trans, kept-more, kept-agree, agree-sym, agree-trans, bytes-same}
 use Rattle.separation.proofs.Good.{Good, Closed, Low, closed-kept, table-reached, writable-reached}
@@ -131,7 +132,7 @@ module _ (g : ℕ) where
               count = same-count ∙ w .count;
               kept = kept-trans _ _ m₀ (x .machine .memory) (called x s .memory) (w .kept) (widen (word s 1) _ _ (stepped .kept));
               there = λ j q. w .there j (stays j q);
-              cores = λ j q. decided (ℕ-discrete j (word s 1)) (λ i. own-good j q i)
+              cores = λ j q. either (ℕ-discrete j (word s 1)) (λ i. own-good j q i)
                   (λ d. subst (Good (sideOf j)) (sym (lawful j d (omega (arith, w .there j (stays j q), w .count)))) (w .cores j (stays j q)));
             }
 
@@ -166,7 +167,7 @@ module _ (g : ℕ) where
           record {
             left = next-within G R c₀ m₀ X x s (t .left) e;
             right = next-within G Q d₀ n₀ Y y s (t .right) f;
-            blocks = λ k h. decided (ℕ-discrete k (word s 1))
+            blocks = λ k h. either (ℕ-discrete k (word s 1))
                 (λ i. subst (λ (j : ℕ). block (called x s .tables) j ≡ block (called y s .tables) j) (sym i) (c .blocks))
                 (λ d. lawful G R c₀ m₀ X x s (t .left) e k d (omega (arith, inC k h, t .left .count)) ∙ t .blocks k h
                 ∙ sym (lawful G Q d₀ n₀ Y y s (t .right) f k d (omega (arith, inD k h, t .right .count))));

@@ -15,12 +15,12 @@ use Rattle.separation.specs.declared.Verdict.{Verdict}
 use Rattle.separation.specs.declared.Verdict.the-variants.{No, Yes, Refused}
 
 -- the running cores
-unfoldable pub running : List ℕ → List ℕ
-running t = select (λ k. runs (block t k)) (range (coresOf t))
+unfoldable pub runningCores : List ℕ → List ℕ
+runningCores t = select (λ k. runs (block t k)) (range (coresOf t))
 
 -- the rest: the other running cores
 unfoldable pub rest : ℕ → List ℕ → List ℕ
-rest g t = select (λ k. not (isSet g k)) (running t)
+rest g t = select (λ k. not (isSet g k)) (runningCores t)
 
 -- a core is running in user mode
 abbrev pub runsAsUser : List ℕ → ℕ → Bool

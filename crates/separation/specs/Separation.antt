@@ -20,7 +20,7 @@ use Rattle.reach.specs.Lists.{range, has, select}
 use Rattle.reach.specs.Reach.{members, mapFor}
 use Rattle.separation.specs.declared.Verdict.{Verdict}
 use Rattle.separation.specs.declared.Verdict.the-variants.{Yes}
-use Rattle.separation.specs.Apart.{apartOn, running, rest}
+use Rattle.separation.specs.Apart.{apartOn, runningCores, rest}
 
 -- A machine is its table words, each of 32 bits, and its memory bytes.
 pub record Machine : Type 0 where
@@ -73,7 +73,7 @@ pub record Point : Type 0 where
 
 -- The first call gets the machine that was judged; it names one of the cores running there,
 abbrev pub start : Machine → Point
-start M = record { machine = M; going = running (M .tables) }
+start M = record { machine = M; going = runningCores (M .tables) }
 
 abbrev pub called : Point → List ℕ → operation.Stepped
 called x s = operation.step (x .machine .tables) (x .machine .memory) s
@@ -109,25 +109,25 @@ isOwn g s = isSet g (word s 1)
 
 -- ---- What a group of cores cs sees: all words of their blocks, and all bytes of the pages ps with their numbers;
 
-pub record View : Type 0 where
+pub record Observation : Type 0 where
   pub blocks : List (List ℕ)
   pub pages : List (ℕ × List ℕ)
 
 abbrev pub pageOf : List ℕ → ℕ → List ℕ
 pageOf m p = take pageBytes (drop (pageBytes * p) m)
 
-abbrev pub seen : List ℕ → List ℕ → Machine → View
+abbrev pub seen : List ℕ → List ℕ → Machine → Observation
 seen cs ps M = record { blocks = map (block (M .tables)) cs; pages = map (λ p. (p, pageOf (M .memory) p)) ps }
 
 -- and after each of the group's steps: the answer, level or number included, and what it sees.
-unfoldable pub observed : ℕ → List ℕ → List ℕ → Point → List (List ℕ) → List (Answer × View)
+unfoldable pub observed : ℕ → List ℕ → List ℕ → Point → List (List ℕ) → List (Answer × Observation)
 observed g cs ps x [] = []
 observed g cs ps x (s ∷ l) =
     if isOwn g s then (called x s .answer, seen cs ps (next x s .machine)) ∷ observed g cs ps (next x s) l
     else observed g cs ps (next x s) l
 
 -- what the group observes in a list that begins with M: its cores and pages are those of the machine that was judged
-abbrev pub observes : ℕ → Machine → List (List ℕ) → List (Answer × View)
+abbrev pub observes : ℕ → Machine → List (List ℕ) → List (Answer × Observation)
 observes g M l = observed g (group g M) (reachable g M) (start M) l
 
 -- Alike: all words of the blocks of the group's cores and all bytes of the pages it reaches in M are equal (that it reaches the same in N follows: pages,

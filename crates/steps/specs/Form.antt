@@ -21,7 +21,7 @@ word s i = getD s i 0
 abbrev pub walkAt : List ℕ → ℕ → Walk
 walkAt s i = record { first = word s i; second = word s (i + 1) }
 
--- words 2, 3, 4 and 5 that a kind does not name
+-- word 5, 4, 3 or 2 and those after it, which a kind does not name, are zero
 abbrev pub zero5 : List ℕ → Bool
 zero5 s = eqb (word s 5) 0
 

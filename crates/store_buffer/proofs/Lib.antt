@@ -5,4 +5,3 @@ pub mod Hits
 pub mod Beneath
 pub mod Served
 pub mod Leaves
-pub mod Laws

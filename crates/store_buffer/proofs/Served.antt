@@ -1,9 +1,9 @@
 -- A load is served by one pending store, or by none.
 -- Assumes nothing.
 use mathlib.Core.Path.{_≡_, refl, sym, ap, _∙_}
-use Prim.Native.Nat.{ℕ, zero, suc, _+_, _-_, _*_, _/_, _%_, _^_, _<_, _≤_}
+use Prim.Native.Nat.{ℕ, _+_, _-_, _*_, _/_, _%_, _^_, _<_, _≤_}
 use mathlib.Core.Bool.{Bool, true, false}
-use mathlib.Core.List.{List, [], _∷_}
+use mathlib.Core.List.{List, []}
 use native.Mathlib.Omega.{arith}
 use lib.ListN.{length, getD}
 use lib.Dec.{eqb}
@@ -11,8 +11,9 @@ use borrow.Author.Tests.{ltb-true}
 use Rattle.word.specs.Word.{if_then_else_, plus, minus}
 use Rattle.word.specs.Bytes.{byte}
 use Rattle.word.proofs.Truth.{and-left, and-right, and-both}
+use Rattle.records.proofs.Facts.{all-at}
 use Rattle.records.specs.declared.Store.{Store}
-use Rattle.records.specs.Records.{all, stores, storeNumbers, storeIn, noStore, linked}
+use Rattle.records.specs.Records.{stores, storeNumbers, storeIn, noStore, linked}
 use Rattle.records.specs.Contents.{storeSound, soundRecords}
 use Rattle.records.proofs.Along.{stores-small}
 use Rattle.records.proofs.Fold.{number-low, at-map, stores-length}
@@ -88,12 +89,6 @@ module _ (sb : List Store) (p : Ports) (m : List ℕ) (a d : ℕ) (low : a < 2 ^
           ms-hit sb p m (a + j) i (alike j h ∙ e) ∙ ap (λ (k : ℕ). There (byte k (s .value))) q)
 
 -- ---- what one pass finds, and the load
-
-all-at : {A : Type 0} (q : A → Bool) (l : List A) (i : ℕ) (e : A) → all q l ≡ true → i < length l → q (getD l i e) ≡ true
-unfolding all
-all-at q [] i e h p = absurd (omega arith)
-all-at q (x ∷ l) zero e h p = and-left (q x) (all q l) h
-all-at q (x ∷ l) (suc i) e h p = all-at q l i e (and-right (q x) (all q l) h) (omega arith)
 
 module _ (b : List ℕ) where
   by-nothing : (t : Bool) (h : Hit) → Nothing ≡ (if t then Mixed else sourceBy b h) → (t ≡ false) × (h ≡ Miss)

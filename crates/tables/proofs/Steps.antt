@@ -9,7 +9,8 @@ use lib.ListN.{length, drop}
 use Rattle.records.specs.declared.Store.{Store}
 use Rattle.records.specs.declared.Walk.{Walk}
 use Rattle.records.specs.declared.Flush.{Flush}
-use Rattle.records.specs.Records.{all, stores, walks, linked, among, goes, staying, withWalk, putStore, takeStore, addWalk, dropWalks}
+use Rattle.records.specs.Records.{all, stores, walks, linked, among, goes, putStore, takeStore, addWalk, dropWalks}
+use Rattle.records.specs.inner.Walks.{staying, withWalk}
 use Rattle.records.specs.Contents.{storeSound, walkSound, soundRecords}
 use Rattle.records.proofs.Contents.{parts-of}
 use Rattle.records.proofs.Laws.{After, few-stores, few-walks, take-law, put-law, add-law, drop-law}

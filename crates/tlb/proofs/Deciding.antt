@@ -1,4 +1,4 @@
--- What the code's cases show of the decisions of the TLB's own steps, and of what is done.
+-- What the code's cases show of the decisions of the TLB's own steps.
 -- Assumes nothing.
 use mathlib.Core.Path.{_≡_, sym, ap, _∙_}
 use mathlib.Core.Bool.{Bool, true, false, not, _&&_}

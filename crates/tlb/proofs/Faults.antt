@@ -11,7 +11,7 @@ use Rattle.tlb.specs.declared.Entry.the-variants.{Word, Missing}
 use Rattle.tlb.specs.declared.Faulting.the-variants.{Faults, Passes, Undecided}
 use Rattle.tlb.specs.Walks.{complete, hit, pte, wextFault, entryFault, faultBy, fault}
 
--- the verdict of an extension, by the entry and its fault f
+-- what an extension gives, by the entry and its fault f
 module _ (r : ℕ) {e : Entry} {v : ℕ} (p : e ≡ Word v) {f : Bool} (q : f ≡ wextFault v r) where
   pub word-faults : f ≡ true → Faults ≡ entryFault r e
   unfolding entryFault

@@ -43,15 +43,7 @@ module _ (v a l r b : ℕ) (ha : a < 2 ^ 6) (hl : l < 4) (hr : r < 2 ^ 3) where
       and-both (leb (f / 8 % 4) 2) _ (le-leb (f / 8 % 4) 2 low)
       (and-both (eqb (f / 32 % 2) 0) _ (eq-eqb (f / 32 % 2) 0 zero) (lt-ltb b (2 ^ 20) q))
 
--- ---- a sound walk is its fields, packed
-
-digits : (f : ℕ) → f / 32 % 2 ≡ 0 → f / 2 ^ 12 * 4096 + f / 2 ^ 6 % 2 ^ 6 * 64 + f / 8 % 4 * 8 + f % 2 ^ 3 ≡ f
-digits f z =
-    let p : f / 8 ≡ f / 32 * 4 + f / 8 % 4 = omega arith in
-    let u : f / 64 ≡ f / 32 / 2 = omega arith in
-    let s : f / 32 ≡ f / 64 * 2 = omega arith in
-    let t : f / 64 ≡ f / 4096 * 64 + f / 64 % 64 = omega arith in
-    omega arith
+-- ---- a sound walk's level
 
 module _ (w : Walk) (e : walkSound w ≡ true) where
   pub level-sound : walkLevel w ≤ 2

@@ -11,7 +11,8 @@ use Rattle.word.specs.Word.{if_then_else_}
 use Rattle.word.proofs.Truth.{and-left, and-right, and-both}
 use Rattle.records.specs.declared.Walk.{Walk}
 use Rattle.records.specs.declared.Flush.the-variants.{All, Page, Incomplete}
-use Rattle.records.specs.Records.{goes, staying}
+use Rattle.records.specs.Records.{goes}
+use Rattle.records.specs.inner.Walks.{staying}
 use Rattle.tlb.specs.Walks.{walkVa, walkAsid, complete, pageKey}
 use Rattle.tlb.specs.inner.Flushes.{keep, pageFlushed, incompleteFlushed}
 

@@ -1,4 +1,4 @@
--- What the TLB's own steps decide and do (the report, 11.3: tlb-create, tlb-extend, tlb-set-accessed). A guard that is decided and fails is
+-- What the TLB's own steps decide (the report, 11.3: tlb-create, tlb-extend, tlb-set-accessed). A guard that is decided and fails is
 -- refusal 6; where none fails and the entry that one needs is not in memory, 7.
 -- Assumes nothing.
 use mathlib.Core.Bool.{Bool, _&&_, not}

@@ -1,4 +1,4 @@
-// Walks and page table entries (specs/Walks.antt), and what the TLB's own steps decide and do (specs/Steps.antt).
+// Walks and page table entries (specs/Walks.antt), and what the TLB's own steps decide (specs/Steps.antt).
 use layout::PTO;
 use layout::SPR;
 use records::Walk;
@@ -216,7 +216,7 @@ pub fn page_key(va: u32, asid: u32) -> u32
     va * 64 + asid
 }
 
-// What a step of the TLB does: a refusal, a walk that is added, or an entry that is written to memory at an address.
+// What a step of the TLB decides: a refusal, a walk that is added, or an entry that is written to memory at an address.
 pub enum Decision {
     Refused(u32),
     Adds(Walk),

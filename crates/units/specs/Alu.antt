@@ -1,8 +1,8 @@
 -- The ALU (6.1.2): its table as printed, and the control bits of definition 28.
 -- Assumes nothing.
-use mathlib.Core.Bool.{Bool, true, false, not, _&&_, _||_}
+use mathlib.Core.Bool.{Bool, false, not, _&&_, _||_}
 use mathlib.Core.List.{List, [], _∷_}
-use Prim.Native.Nat.{ℕ, _+_, _-_, _*_, _/_, _%_, _^_}
+use Prim.Native.Nat.{ℕ, _+_, _-_, _*_, _%_, _^_}
 use lib.Dec.{ltb}
 use lib.IntN.{_+ℤ_, _-ℤ_}
 use lib.Signed.{ltZ}

@@ -1,7 +1,7 @@
 -- The multiplication unit (6.1.3): its table as printed, and the control bits of definition 30.
 -- Assumes nothing.
 use mathlib.Core.List.{List, [], _∷_}
-use Prim.Native.Nat.{ℕ, _+_, _*_, _/_, _%_, _^_}
+use Prim.Native.Nat.{ℕ, _+_, _*_, _%_, _^_}
 use lib.IntN.{_*ℤ_}
 use Rattle.word.specs.Word.{bit, signed, twoc, plus, minus}
 use Rattle.decode.specs.Fields.{opc, fun}

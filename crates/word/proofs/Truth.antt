@@ -1,6 +1,6 @@
 -- Truth values: what holds of and, or and choice, for every crate.
 -- Assumes nothing.
-use mathlib.Core.Path.{_≡_, refl, sym}
+use mathlib.Core.Path.{_≡_, refl, sym, _∙_}
 use mathlib.Core.Logic.{_⊎_, inl, inr}
 use mathlib.Core.Bool.{Bool, true, false, _&&_, _||_}
 use Rattle.word.proofs.Tests.{true-false}
@@ -31,6 +31,12 @@ pub and-assoc : (a b c : Bool) → a && (b && c) ≡ (a && b) && c
 and-assoc true b c = refl
 and-assoc false b c = refl
 
+pub and-turn : (a b : Bool) → a && b ≡ b && a
+and-turn true true = refl
+and-turn true false = refl
+and-turn false true = refl
+and-turn false false = refl
+
 -- ---- or
 
 pub or-first : (a b : Bool) → a ≡ true → a || b ≡ true
@@ -40,6 +46,10 @@ or-first false b e = absurd (true-false (sym e))
 pub or-second : (a b : Bool) → b ≡ true → a || b ≡ true
 or-second true b e = refl
 or-second false b e = e
+
+pub or-other : (a b : Bool) → a || b ≡ true → a ≡ false → b ≡ true
+or-other false b e p = e
+or-other true b e p = absurd (true-false p)
 
 pub or-cases : (a b : Bool) → a || b ≡ true → (a ≡ true) ⊎ (b ≡ true)
 or-cases true b e = inl refl
@@ -81,3 +91,7 @@ or-turn false false = refl
 pub tested : {B : Type 0} (t : Bool) → (t ≡ true → B) → (t ≡ false → B) → B
 tested true f g = f refl
 tested false f g = g refl
+
+-- a truth value is not both
+pub clash : {A : Type 0} (t : Bool) → t ≡ true → t ≡ false → A
+clash t p q = absurd (true-false (sym p ∙ q))

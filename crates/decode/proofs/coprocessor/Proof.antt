@@ -3,8 +3,6 @@ use borrow.Author.Tests.{ne-eqb, eq-eqb}
 use Rattle.decode.specs.Table.{rowOf}
 use Rattle.decode.proofs.coprocessor.Statement.{statement}
 use Rattle.decode.proofs.coprocessor.Tie as tie
-use Rattle.decode.proofs.coprocessor.Reads as reads
-use Rattle.decode.proofs.coprocessor.Lts as lts
 
 returns : tie.Need-returns
 unfolding rowOf

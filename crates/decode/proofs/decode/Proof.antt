@@ -6,12 +6,6 @@ use mathlib.Core.Path.{_∙_}
 use Rattle.decode.specs.Table.{rowOf, decoded}
 use Rattle.decode.proofs.decode.Statement.{statement}
 use Rattle.decode.proofs.decode.Tie as tie
-use Rattle.decode.proofs.decode.Reads as reads
-use Rattle.decode.proofs.decode.Lts as lts
-use Rattle.decode.proofs.coprocessor.Reads as coprocessor-reads
-use Rattle.decode.proofs.multiplication.Reads as multiplication-reads
-use Rattle.decode.proofs.sign_branch.Reads as sign-branch-reads
-use Rattle.decode.proofs.special.Reads as special-reads
 
 special-requires : tie.Need-special-requires
 special-requires c κs = search needs

@@ -3,8 +3,6 @@ use mathlib.Core.List.{[], _∷_}
 use Rattle.decode.specs.Table.{rowOf}
 use Rattle.decode.proofs.multiplication.Statement.{statement}
 use Rattle.decode.proofs.multiplication.Tie as tie
-use Rattle.decode.proofs.multiplication.Reads as reads
-use Rattle.decode.proofs.multiplication.Lts as lts
 
 returns : tie.Need-returns
 unfolding rowOf

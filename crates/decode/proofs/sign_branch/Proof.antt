@@ -3,8 +3,6 @@ use borrow.Author.Tests.{ne-eqb}
 use Rattle.decode.specs.Table.{rowOf}
 use Rattle.decode.proofs.sign_branch.Statement.{statement}
 use Rattle.decode.proofs.sign_branch.Tie as tie
-use Rattle.decode.proofs.sign_branch.Reads as reads
-use Rattle.decode.proofs.sign_branch.Lts as lts
 
 returns : tie.Need-returns
 unfolding rowOf

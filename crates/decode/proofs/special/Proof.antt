@@ -3,8 +3,6 @@ use mathlib.Core.List.{[], _∷_}
 use Rattle.decode.specs.Table.{rowOf}
 use Rattle.decode.proofs.special.Statement.{statement}
 use Rattle.decode.proofs.special.Tie as tie
-use Rattle.decode.proofs.special.Reads as reads
-use Rattle.decode.proofs.special.Lts as lts
 
 returns : tie.Need-returns
 unfolding rowOf

@@ -1,5 +1,6 @@
 -- The forms that an instruction's effect and its events take, for the functions that make them. It serves contracts inside alone: `written` of
--- proofs/Effects ties an outcome to definition 49 in Core, and `events-by` of proofs/Laws ties the events to those of Interrupts.
+-- proofs/Effects ties an outcome to definition 49 in Core, and `events-by` of proofs/Laws ties the events to those of Interrupts;
+-- `completed` of proofs/Effects ties `entered` to definition 54.
 -- Assumes nothing.
 use mathlib.Core.Bool.{Bool, true, false, not, _&&_, _||_}
 use Prim.Native.Nat.{ℕ, _+_, _*_, _/_, _%_, _^_}

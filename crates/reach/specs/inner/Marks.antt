@@ -1,5 +1,5 @@
 -- How the code keeps sets of pages: as marks in one array of bytes. It serves the contracts inside this crate alone:
--- proofs/Closing.antt ties the marks to specs/Reach.antt, and the contracts of fill and reach speak of that file only.
+-- `filled-map` and `filled-beyond` of proofs/Closing tie the marks to specs/Reach.antt, and the contracts of fill and reach speak of that file only.
 -- Assumes nothing.
 use mathlib.Core.Path.{_≡_}
 use mathlib.Core.Bool.{Bool, true, false, _||_, not}

@@ -1,5 +1,5 @@
--- What the check asks of each chain and of each record on it: rules of Records and Contents. It serves contracts inside alone: proofs/Contents ties
--- `ruled` to `soundRecords`.
+-- What the check asks of each chain and of each record on it: rules of Records and Contents. It serves contracts inside alone:
+-- `fails-once` and `tested-all` of proofs/Contents tie `ruled` to `soundRecords`.
 -- Assumes nothing.
 use Prim.Native.Nat.{ℕ}
 use mathlib.Core.Bool.{Bool, _&&_}

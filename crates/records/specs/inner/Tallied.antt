@@ -1,5 +1,5 @@
--- What the count of a chain's records gives: whether they are few and all fit, and then how often each is there. It is the contract of one function
--- of the check, and nothing outside speaks of it.
+-- What the count of a chain's records gives: whether they are few and all fit, and then how often each is there. It serves contracts inside alone:
+-- `tallied-once` of proofs/Whole ties the three counts to `ruled` and `onceEach`.
 -- Assumes nothing.
 use mathlib.Core.Path.{_≡_}
 use Prim.Native.Nat.{ℕ, _+_, _<_}

@@ -1,5 +1,5 @@
--- What the functions inside apart answer, core by core and page by page. Nothing here has to be believed: the laws of
--- proofs/Deciding tie it to Apart.
+-- What the functions inside apart answer, core by core and page by page. It serves contracts inside alone:
+-- `users-are` and `pages-decide` of proofs/Deciding tie it to Apart.
 -- Assumes nothing.
 use mathlib.Core.Bool.{Bool, _&&_, _||_, not}
 use mathlib.Core.List.{List}

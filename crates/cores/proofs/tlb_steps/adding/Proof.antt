@@ -1,13 +1,13 @@
 use borrow.Author.Needs.{needs}
 use Rattle.cores.proofs.tlb_steps.adding.Statement.{statement}
 use Rattle.cores.proofs.tlb_steps.adding.Tie as tie
-use mathlib.Core.Path.{sym, _∙_, ap, refl}
-use Rattle.cores.proofs.Adding.{adding-held, adding-full, adding-none, adding-room, or-other}
+use mathlib.Core.Path.{sym, _∙_, ap}
+use Rattle.cores.proofs.Adding.{adding-held, adding-full, adding-none, adding-room}
 use mathlib.Core.Bool.{not}
 use denote.Ref.{now}
 use lib.Dec.{eqb, leb}
 use lib.ListN.{getD}
-use Rattle.word.proofs.Truth.{or-none-left, or-none-right}
+use Rattle.word.proofs.Truth.{or-none-left, or-none-right, or-other}
 
 count-walks-requires : tie.Need-count-walks-requires
 count-walks-requires c κs = search needs

@@ -4,10 +4,6 @@ use native.Mathlib.Nat.{zero-add}
 use borrow.Author.Needs.{needs}
 use Rattle.units.proofs.alu.control.Statement.{statement}
 use Rattle.units.proofs.alu.control.Tie as tie
-use Rattle.units.proofs.alu.control.Reads as reads
-use Rattle.units.proofs.alu.control.Lts as lts
-use Rattle.units.proofs.alu.control_high.Reads as control-high-reads
-use Rattle.units.proofs.alu.control_low.Reads as control-low-reads
 
 control-low-requires : tie.Need-control-low-requires
 control-low-requires c κs = search needs

@@ -1,8 +1,6 @@
 use borrow.Author.Needs.{needs}
 use Rattle.units.proofs.alu.control_low.Statement.{statement}
 use Rattle.units.proofs.alu.control_low.Tie as tie
-use Rattle.units.proofs.alu.control_low.Reads as reads
-use Rattle.units.proofs.alu.control_low.Lts as lts
 
 returns : tie.Need-returns
 returns c = (rw (c .if1 .taken), search needs)

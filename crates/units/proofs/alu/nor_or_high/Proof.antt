@@ -2,9 +2,6 @@ use Rattle.units.specs.Alu.{alures}
 use borrow.Author.Needs.{needs}
 use Rattle.units.proofs.alu.nor_or_high.Statement.{statement}
 use Rattle.units.proofs.alu.nor_or_high.Tie as tie
-use Rattle.units.proofs.alu.nor_or_high.Reads as reads
-use Rattle.units.proofs.alu.nor_or_high.Lts as lts
-use Rattle.word.proofs.nor.Reads as nor-reads
 
 mul-result : tie.Need-mul-result
 mul-result c = search needs
