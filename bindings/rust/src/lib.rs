@@ -1,10 +1,14 @@
 //! The MIPS-86 machine with one to four cores, for Rust: make a machine, take one step, run a schedule; which pages a
 //! group of cores reaches, and whether the group is kept apart from the others.
 //!
-//! The caller lends the machine's tables and its memory. All of the machine is in them: nothing is kept between calls.
-//! Every call is safe with any words and bytes, since the functions ask nothing but sound references. What each
-//! operation does to the tables and the memory is proved in Rattle (crates/mips86); `../../include/mips86.h` has the
-//! layout, the kinds of step and the refusals in short.
+//! [`Machine`] owns a machine's tables and memory; the functions are for a caller who lends them. All of the machine is
+//! in the two: nothing is kept between calls. Every call is safe with any words and bytes, since the functions ask
+//! nothing but sound references. What each operation does to the tables and the memory is proved in Rattle
+//! (crates/mips86); `../../include/mips86.h` has the layout, the kinds of step and the refusals in short.
+
+mod machine;
+
+pub use machine::{LoadError, Machine, Reach};
 
 /// Bytes of a page of memory.
 pub const PAGE_BYTES: usize = 4096;
