@@ -151,7 +151,7 @@ not-twice : (a b : Bool) → not (a && b) ≡ true → a ≡ true → b ≡ true
 not-twice a b e p q = clash (a && b) (and-both a b p q) (not-true (a && b) e)
 
 -- lists of numbers below n have none in common
-disjoint-below : (n : ℕ) (l r : List ℕ) → ((x : ℕ) → In x l → x < n) → disjoint l r ≡ all (λ x. not (has x l && has x r)) (range n)
+pub disjoint-below : (n : ℕ) (l r : List ℕ) → ((x : ℕ) → In x l → x < n) → disjoint l r ≡ all (λ x. not (has x l && has x r)) (range n)
 unfolding disjoint
 disjoint-below n l r low =
     both-ways (all (λ x. not (has x r)) l) (all (λ x. not (has x l && has x r)) (range n))
