@@ -1,5 +1,5 @@
 // The run program of 01: a machine and its steps from standard input, an answer for each on standard output.
-mod text;
+mod lines;
 
 use layout::BLOCK_WORDS;
 use layout::HEADER_WORDS;
@@ -70,7 +70,7 @@ fn take_all(t: &mut [u32], m: &mut [u8], input: &[u8], first: u64, out: &mut [u8
     let mut taken: u64 = 0;
     while i < n {
         let a = take(t, m, input, i * STEP_BYTES);
-        written = text::put_line(out, written, first + i as u64, a);
+        written = lines::put_line(out, written, first + i as u64, a);
         taken += accepted(a);
         i += 1;
     }
@@ -107,7 +107,7 @@ fn finish(steps: u64, accepted: u64, rest: usize)
         io::write_all(STDOUT_FILENO, b"cut\n");
     }
     let mut out = [0u8; 64];
-    let n = text::put_end(&mut out, accepted, steps - accepted);
+    let n = lines::put_end(&mut out, accepted, steps - accepted);
     io::write_all(STDOUT_FILENO, &out[..n]);
 }
 

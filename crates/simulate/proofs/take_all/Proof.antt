@@ -5,7 +5,7 @@ use lib.ListN.{length}
 use borrow.Author.Needs.{needs}
 use Rattle.simulate.proofs.take_all.Statement.{statement}
 use Rattle.simulate.proofs.take_all.Tie as tie
-use Rattle.simulate.proofs.Texts.{counts}
+use Rattle.text.proofs.Texts.{counts}
 
 abbrev Inv-loop : tie.InvT-loop
 Inv-loop t₀ m₀ input first out₀ n i₀ written₀ taken₀ t m out i written taken =

@@ -1,9 +1,9 @@
 use native.Mathlib.Omega.{arith}
 use borrow.Author.Needs.{needs}
-use Rattle.simulate.proofs.text.put_end.Statement.{statement}
-use Rattle.simulate.proofs.text.put_end.Tie as tie
-use Rattle.simulate.specs.Text.{endText}
-use Rattle.simulate.proofs.Texts.{follow, counts}
+use Rattle.simulate.proofs.lines.put_end.Statement.{statement}
+use Rattle.simulate.proofs.lines.put_end.Tie as tie
+use Rattle.simulate.specs.Lines.{endText}
+use Rattle.text.proofs.Texts.{follow, counts}
 
 slice-aggregate-put : tie.Need-slice-aggregate-put
 slice-aggregate-put c = search needs

@@ -1,9 +1,9 @@
 use native.Mathlib.Omega.{arith}
 use borrow.Author.Needs.{needs}
-use Rattle.simulate.proofs.text.put_line.Statement.{statement}
-use Rattle.simulate.proofs.text.put_line.Tie as tie
-use Rattle.simulate.specs.Text.{lineText}
-use Rattle.simulate.proofs.Texts.{follow}
+use Rattle.simulate.proofs.lines.put_line.Statement.{statement}
+use Rattle.simulate.proofs.lines.put_line.Tie as tie
+use Rattle.simulate.specs.Lines.{lineText}
+use Rattle.text.proofs.Texts.{follow}
 
 put-number-requires : tie.Need-put-number-requires
 put-number-requires c κs = search needs

@@ -1,33 +1,13 @@
-// The lines of the run program, put into a buffer (specs/Text.antt).
+// The lines of the run program, put into a buffer (specs/Lines.antt).
 use steps::Answer;
+use text::put;
+use text::put_number;
 ghost use mathlib.Core.List.{_++_};
 ghost use Prim.Native.Nat.{_+_, _≤_};
 ghost use lib.ListN.{length};
 ghost use Rattle.io.specs.Counts.{Counts};
-ghost use Rattle.simulate.specs.Text.{Put, decimal, answerText, lineText, endText};
-
-// Puts a text at a place, and answers the place after it.
-pub fn put(out: &mut [u8], at: usize, text: &[u8]) -> usize
-    requires { ⌜ at + length (now text) ≤ length (now out) ⌝ }
-    ensures { λ r. ⌜ Put (now (out .entry)) at (now (text .entry)) r (now (out .exit)) ⌝ }
-{
-    let mut i: usize = 0;
-    while i < text.len() {
-        out[at + i] = text[i];
-        i += 1;
-    }
-    at + i
-}
-
-// The decimal digits of a number, of which there are at most 20.
-pub fn put_number(out: &mut [u8], at: usize, n: u64) -> usize
-    requires { ⌜ at + 20 ≤ length (now out) ⌝ }
-    ensures { λ r. ⌜ Put (now (out .entry)) at (decimal n) r (now (out .exit)) × (r ≤ at + 20) ⌝ }
-{
-    let mut digits = [0u8; 20];
-    let k = io::decimal(n, &mut digits);
-    put(out, at, &digits[..k])
-}
+ghost use Rattle.text.specs.Text.{Put, decimal};
+ghost use Rattle.simulate.specs.Lines.{answerText, lineText, endText};
 
 // A word and the number after it.
 fn put_with(out: &mut [u8], at: usize, name: &[u8], n: u32) -> usize

@@ -4,7 +4,7 @@ use mathlib.Core.Path.{_≡_, refl, sym, ap, _∙_, subst}
 use mathlib.Core.Bool.{Bool}
 use mathlib.Core.Logic.{⊎-elim}
 use mathlib.Core.List.{List, [], _∷_, _++_, append-assoc, append-nil}
-use Prim.Native.Nat.{ℕ, zero, suc, _+_, _-_, _*_, _/_, _%_, _^_, _≤_, _<_}
+use Prim.Native.Nat.{ℕ, zero, suc, _+_, _-_, _*_, _/_, _%_, _^_, _≤_, _<_, min, max}
 use native.Mathlib.Nat.{mod-eq-of-lt, pow-suc, one-le-pow, pow-le-pow-right}
 use native.Mathlib.Numerals.{add-one}
 use native.Mathlib.Omega.{arith}
@@ -16,7 +16,7 @@ use Rattle.io.specs.Counts.{Counts}
 use Rattle.io.specs.Digits.{digits, glyph, Fewest}
 use Rattle.word.specs.Word.{if_then_else_}
 use Rattle.word.proofs.Laws.{side}
-use Rattle.simulate.specs.Text.{Put, decimalIn, decimal}
+use Rattle.text.specs.Text.{Put, decimalIn, decimal, blanks, padded}
 
 pub none : (b : List ℕ) (at : ℕ) → Put b at [] (at + 0) b
 none b at = record { place = refl; kept = refl; front = let e : at + 0 ≡ at = omega arith in rw e (sym (append-nil (take at b))); beyond = refl }
@@ -87,3 +87,66 @@ numbered {b} {at} {x} {r} {c} n k h p e l w =
 
 pub counts : (n : ℕ) (l : List ℕ) → n ≤ length l → Counts n l
 counts n l h = (h, sym (length-take-le n l h))
+
+-- one byte after a text
+pub then-byte :
+    (b : List ℕ) (at : ℕ) (x : List ℕ) (r : ℕ) (c : List ℕ) (v : ℕ) → Put b at x r c → r < length c
+    → Put b at (x ++ (v ∷ [])) (r + 1) (set c r v)
+then-byte b at x r c v p h =
+    record {
+      place = omega (arith, length-append x (v ∷ []), p .place);
+      kept = length-set c r v ∙ p .kept;
+      front = rw (add-one r, take-suc-set c r v h, p .front, append-assoc);
+      beyond = drop-set-lt (r + 1) c r v (omega arith) ∙ further c b r (r + 1) (omega arith) (p .beyond);
+    }
+
+-- one byte
+pub single : (b : List ℕ) (at v : ℕ) → at < length b → Put b at (v ∷ []) (at + 1) (set b at v)
+single b at v h =
+    let e : at + 0 ≡ at = omega arith in
+    then-byte b at [] at b v (subst (λ (r : ℕ). Put b at [] r b) e (none b at)) h
+
+pub blank-more :
+    (b : List ℕ) (at i : ℕ) (c : List ℕ) → Put b at (blanks i) (at + i) c → at + i < length c → Put b at (blanks (i + 1)) (at + (i + 1)) (set c (at + i) 32)
+unfolding blanks
+blank-more b at i c p h =
+    let e : at + i + 1 ≡ at + (i + 1) = omega arith in
+    subst (λ (n : ℕ). Put b at (blanks n) (at + (i + 1)) (set c (at + i) 32)) (sym (add-one i))
+    (subst (λ (r : ℕ). Put b at (blanks i ++ (32 ∷ [])) r (set c (at + i) 32)) e (then-byte b at (blanks i) (at + i) c 32 p h))
+
+pub length-blanks : (n : ℕ) → length (blanks n) ≡ n
+unfolding blanks
+length-blanks zero = refl
+length-blanks (suc n) = length-append (blanks n) (32 ∷ []) ∙ omega (arith, length-blanks n)
+
+-- the fewest digits that a width holds are as many as the width says
+pub exact : (n w k : ℕ) → 0 < w → w ≤ 16 → n < 16 ^ w → Fewest 16 (min (max w 1) 16) n k → k ≡ w
+exact n w k low high h (l, s, g) =
+    let e : min (max w 1) 16 ≡ w = omega arith in
+    ⊎-elim (λ (u : k < w + 1). omega arith)
+    (λ (u : w + 1 ≤ k). absurd (omega (arith, g (omega arith), pow-le-pow-right {n = 16} (omega arith) {i = w} {j = k - 1} (omega arith))))
+    (side k (w + 1))
+
+pub hexed :
+    {b : List ℕ} {at : ℕ} {x : List ℕ} {r : ℕ} {c : List ℕ} (n w k : ℕ) → 0 < w → w ≤ 16 → n < 16 ^ w → Put b at x r c → x ≡ digits 16 k n → k ≡ length x
+    → Fewest 16 (min (max w 1) 16) n k → Put b at (digits 16 w n) r c × (r ≡ at + w)
+hexed {b} {at} {x} {r} {c} n w k low high h p e l f =
+    let q : k ≡ w = exact n w k low high h f in
+    (subst (λ (t : List ℕ). Put b at t r c) (e ∙ ap (λ (j : ℕ). digits 16 j n) q) p, omega (arith, p .place))
+
+-- the same text in other words
+pub reworded : {b : List ℕ} {at : ℕ} {x y : List ℕ} {r : ℕ} {c : List ℕ} → x ≡ y → Put b at x r c → Put b at y r c
+reworded {b} {at} {x} {y} {r} {c} e p = subst (λ (t : List ℕ). Put b at t r c) e p
+
+-- blanks and then a number's digits
+pub lined :
+    {b : List ℕ} {at : ℕ} {i : ℕ} {q : ℕ} {d : List ℕ} {x : List ℕ} {r : ℕ} {c : List ℕ} (n w k : ℕ) → n < 2 ^ 64 → w ≤ 20 → Put b at (blanks i) q d
+    → Put d q x r c → i ≡ w - k → x ≡ digits 10 k n → k ≡ length x → Fewest 10 1 n k → Put b at (padded w n) r c × (r ≤ at + 20)
+unfolding padded
+lined {b} {at} {i} {q} {d} {x} {r} {c} n w k h v p s j e l f =
+    let g : k ≤ 20 = few n k h f in
+    let t : x ≡ decimal n = e ∙ spelled 20 k n g f in
+    let u : w - k ≡ w - length (decimal n) = ap (λ (a : ℕ). w - a) (l ∙ ap length t) in (
+      follow (reworded (ap blanks (j ∙ u)) p) (reworded t s),
+      omega (arith, p .place, s .place, length-blanks i),
+    )

@@ -1,8 +1,8 @@
 use native.Mathlib.Omega.{arith}
 use borrow.Author.Needs.{needs}
-use Rattle.simulate.proofs.text.put_with.Statement.{statement}
-use Rattle.simulate.proofs.text.put_with.Tie as tie
-use Rattle.simulate.proofs.Texts.{follow}
+use Rattle.simulate.proofs.lines.put_with.Statement.{statement}
+use Rattle.simulate.proofs.lines.put_with.Tie as tie
+use Rattle.text.proofs.Texts.{follow}
 
 put-requires : tie.Need-put-requires
 put-requires c κs = search needs

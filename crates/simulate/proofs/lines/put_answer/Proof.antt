@@ -1,8 +1,8 @@
 use native.Mathlib.Omega.{arith}
 use borrow.Author.Needs.{needs}
-use Rattle.simulate.proofs.text.put_answer.Statement.{statement}
-use Rattle.simulate.proofs.text.put_answer.Tie as tie
-use Rattle.simulate.specs.Text.{answerText}
+use Rattle.simulate.proofs.lines.put_answer.Statement.{statement}
+use Rattle.simulate.proofs.lines.put_answer.Tie as tie
+use Rattle.simulate.specs.Lines.{answerText}
 
 enum-told : tie.Need-enum-told
 enum-told c = search needs

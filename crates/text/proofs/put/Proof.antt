@@ -1,10 +1,10 @@
 use Prim.Native.Nat.{_+_, _-_, _≤_}
 use native.Mathlib.Omega.{arith}
 use lib.ListN.{length, take}
-use Rattle.simulate.proofs.text.put.Statement.{statement}
-use Rattle.simulate.proofs.text.put.Tie as tie
-use Rattle.simulate.specs.Text.{Put}
-use Rattle.simulate.proofs.Texts.{none, one-more, whole}
+use Rattle.text.proofs.put.Statement.{statement}
+use Rattle.text.proofs.put.Tie as tie
+use Rattle.text.specs.Text.{Put}
+use Rattle.text.proofs.Texts.{none, one-more, whole}
 
 abbrev Inv-loop : tie.InvT-loop
 Inv-loop out₀ at text i₀ out i = Put out₀ at (take i text) (at + i) out × (i ≤ length text)

@@ -1,9 +1,9 @@
 use Prim.Native.Nat.{_^_, _<_}
 use native.Mathlib.Omega.{arith}
 use borrow.Author.Needs.{needs}
-use Rattle.simulate.proofs.text.put_number.Statement.{statement}
-use Rattle.simulate.proofs.text.put_number.Tie as tie
-use Rattle.simulate.proofs.Texts.{few, numbered}
+use Rattle.text.proofs.put_number.Statement.{statement}
+use Rattle.text.proofs.put_number.Tie as tie
+use Rattle.text.proofs.Texts.{few, numbered}
 
 decimal-requires : tie.Need-decimal-requires
 decimal-requires c κs = search needs
