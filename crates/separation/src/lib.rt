@@ -1,5 +1,5 @@
 // Whether a group of cores is kept apart from the rest (specs/Apart.antt), and what that promises (specs/Separation.antt).
-mod sides;
+pub mod sides;
 
 use layout::CORES;
 use layout::MOST_PAGES;

@@ -12,7 +12,7 @@ ghost use Rattle.separation.specs.Apart as x;
 ghost use Rattle.separation.specs.inner.Sides as y;
 
 // Whether core k is of the group.
-fn is_member(group: u32, k: u32) -> bool
+pub fn is_member(group: u32, k: u32) -> bool
     requires { ⌜ k < 32 ⌝ }
     ensures { λ r. ⌜ r ≡ isSet group k ⌝ }
 {

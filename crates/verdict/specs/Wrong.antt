@@ -1,0 +1,55 @@
+-- The one line that is all there is where the arguments or the input are wrong, and how an argument is read.
+-- Assumes nothing.
+use mathlib.Core.Bool.{Bool, _&&_}
+use mathlib.Core.List.{List, _++_, map}
+use Prim.Native.Nat.{ℕ, _-_}
+use lib.Dec.{eqb, leb}
+use lib.ListN.{length, getD}
+use Rattle.word.specs.Word.{if_then_else_}
+use Rattle.text.specs.Text.{ascii, decimal}
+
+-- the core that an argument names: one digit from 0 to 3; 4 stands for none
+unfoldable pub coreOf : List ℕ → ℕ
+coreOf s = if eqb (length s) 1 && (leb 48 (getD s 0 0) && leb (getD s 0 0) 51) then getD s 0 0 - 48 else 4
+
+-- a byte as it is shown: a printable one, or a question mark
+abbrev pub shown : ℕ → ℕ
+shown x = if leb 32 x && leb x 126 then x else 63
+
+unfoldable pub noGroupText : List ℕ
+noGroupText = ascii "no group: name its cores, as in 'verdict 0 2'\n"
+
+-- an argument, or the first bytes of a long one
+unfoldable pub noCoreText : List ℕ → Bool → List ℕ
+noCoreText s long = ascii "'" ++ map shown s ++ (if long then ascii "..' is no core number: 0 to 3\n" else ascii "' is no core number: 0 to 3\n")
+
+unfoldable pub cutHeadText : ℕ → List ℕ
+cutHeadText n = ascii "the input is cut at byte " ++ decimal n ++ ascii ": words 0 and 1 are 8 bytes\n"
+
+abbrev pub machineText : ℕ → ℕ → ℕ → List ℕ
+machineText cores pages bytes =
+    ascii ": a machine (cores: " ++ decimal cores ++ ascii ", pages: " ++ decimal pages ++ ascii ") has " ++ decimal bytes ++ ascii " bytes\n"
+
+unfoldable pub cutText : ℕ → ℕ → ℕ → ℕ → List ℕ
+cutText n cores pages bytes = ascii "the input is cut at byte " ++ decimal n ++ machineText cores pages bytes
+
+unfoldable pub longText : ℕ → ℕ → ℕ → List ℕ
+longText cores pages bytes = ascii "the input is too long" ++ machineText cores pages bytes
+
+unfoldable pub badCoresText : ℕ → List ℕ
+badCoresText n = ascii "word 0 says " ++ decimal n ++ ascii " cores: 1 to 4\n"
+
+unfoldable pub badPagesText : ℕ → List ℕ
+badPagesText n = ascii "word 1 says " ++ decimal n ++ ascii " pages: 1 to 4096\n"
+
+unfoldable pub stackText : ℕ → List ℕ
+stackText pages = ascii "a map of " ++ decimal pages ++ ascii " pages needs a larger stack: type 'ulimit -s 32768' first\n"
+
+abbrev pub refusedWhy : ℕ → List ℕ
+refusedWhy n =
+    if eqb n 4 then ascii ": the tables are not sound\n"
+    else if eqb n 13 then ascii ": a core of the group is not there\n"
+    else ascii "\n"
+
+unfoldable pub refusedText : ℕ → List ℕ
+refusedText n = ascii "refused " ++ decimal n ++ refusedWhy n
