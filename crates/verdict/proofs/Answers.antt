@@ -15,16 +15,19 @@ use Rattle.separation.specs.Apart.{rest, apartOn}
 use Rattle.separation.specs.declared.Verdict.{Verdict}
 use Rattle.separation.specs.declared.Verdict.the-variants.{No, Yes, Refused}
 use Rattle.separation.proofs.Deciding.{says-4}
+use Rattle.verdict.specs.declared.reason.Way.{Way}
+use Rattle.verdict.specs.Reasons.{reasonText, none, more}
 use Rattle.verdict.specs.Wrong.{refusedText}
 use Rattle.verdict.specs.Report.{shownSides, sidesText, Answered}
 use Rattle.verdict.specs.inner.Some.{Some}
 use Rattle.verdict.proofs.Marks.{nothing}
 
 pub no-lines : (b : List ℕ) (at : ℕ) → Some b at at b
-no-lines b at = record { text = []; put = nothing b at }
+no-lines b at = record { text = []; told = none; put = nothing b at }
 
-pub more-lines : {b : List ℕ} {at r : ℕ} {c : List ℕ} {y : List ℕ} {q : ℕ} {d : List ℕ} → Some b at r c → Put c r y q d → Some b at q d
-more-lines {y} s p = record { text = s .text ++ y; put = follow (s .put) p }
+pub more-lines :
+    {b : List ℕ} {at r : ℕ} {c : List ℕ} {q : ℕ} {d : List ℕ} (n : ℕ) (w : Way) → Some b at r c → Put c r (reasonText n w) q d → Some b at q d
+more-lines n w s p = record { text = s .text ++ reasonText n w; told = more n w (s .told); put = follow (s .put) p }
 
 -- ---- the sides, with the maps that were filled
 
@@ -66,7 +69,7 @@ module _ (g : ℕ) (t m : List ℕ) where
       → Put d q (ascii "not apart\n") r f → Answered (apartOn g t m) b g t m r f
   unfolding Answered
   answered-no {b} {p} {c} {q} {d} {r} {f} e x y z =
-      subst (λ (v : Verdict). Answered v b g t m r f) (sym e) (record { reasons = y .text; whole = follow (follow x (y .put)) z })
+      subst (λ (v : Verdict). Answered v b g t m r f) (sym e) (record { reasons = y .text; told = y .told; whole = follow (follow x (y .put)) z })
 
   module _ (n : ℕ) where
     pub answered-refused :

@@ -69,3 +69,8 @@ reasonText n w =
     else if eqb n 5 then spoilText (ascii "the rest can write its own table page ") (ascii ": ") w
     else if eqb (w .level) 0 then spoilText (ascii "the rest can write page ") (ascii ", which the group reaches: ") w
     else spoilText (ascii "the rest uses page ") (ascii " as a table, which the group reaches: ") w
+
+-- lines of reasons, one after the other
+pub data Told : List ℕ → Type 0 where
+  none : Told []
+  more : {x : List ℕ} (n : ℕ) (w : Way) → Told x → Told (x ++ reasonText n w)

@@ -48,7 +48,7 @@ loop-less : tie.Need-loop-less Inv-loop μ-loop
 loop-less c = search needs
 
 loop-again : tie.Need-loop-again Inv-loop μ-loop
-loop-again c = (more-lines (c .before .before .before .before .before .before .before .before .before .before .before .before .loop .inv .0) (c .before .before .put-reason .ensures .0), omega arith, omega (arith, c .before .before .put-reason .ensures .1), search needs)
+loop-again c = (more-lines _ _ (c .before .before .before .before .before .before .before .before .before .before .before .before .loop .inv .0) (c .before .before .put-reason .ensures .0), omega arith, omega (arith, c .before .before .put-reason .ensures .1), search needs)
 
 same-length-3 : tie.Need-same-length-3 Inv-loop μ-loop
 same-length-3 c = c .before .loop .inv .0 .put .kept
