@@ -97,6 +97,33 @@ def as_it_is(r, b):
     return b
 
 
+def enlarged(b, pages):
+    """The same machine with more memory."""
+    start = 128 + 1024 * struct.unpack_from("<I", b)[0]
+    return b[:4] + struct.pack("<I", pages) + b[8:start] + b[start:].ljust(4096 * pages, b"\0")
+
+
+def stack(kilobytes):
+    resource.setrlimit(resource.RLIMIT_STACK, (kilobytes * 1024, resource.getrlimit(resource.RLIMIT_STACK)[1]))
+
+
+def sizes(program, map_):
+    """Maps of 1,024 pages and of more, on the usual stack and on a larger one: what is said last, and in how many lines."""
+    failed = 0
+    for kilobytes, pages, last, lines in (
+        (8192, 1024, "apart", 2 + 16 + LEGEND + 1),
+        (8192, 1025, "a map of 1025 pages needs a larger stack: type 'ulimit -s 32768' first", 1),
+        (32768, 1025, "apart", 2 + 17 + LEGEND + 1),
+        (32768, 4096, "apart", 2 + 64 + LEGEND + 1),
+    ):
+        stack(kilobytes)
+        got = subprocess.run([program, "0"], input=enlarged(map_, pages), stdout=subprocess.PIPE, timeout=20).stdout.decode().split("\n")[:-1]
+        if not got or got[-1] != last or len(got) != lines:
+            failed += 1
+            print("verdict: %d pages and a stack of %d KB: %r, %d lines" % (pages, kilobytes, got[-1:], len(got)))
+    return failed
+
+
 GROUPS = [["0"], ["1"], ["2"], ["3"], ["0", "2"], ["1", "2", "3"], ["0", "1", "2", "3"], ["3", "3"]]
 BAD_GROUPS = [[], [""], ["4"], ["-1"], ["00"], ["x7"], ["0", "x"], ["\x01\x7f"], ["é"], ["1" * 16], ["1" * 17], ["a" * 5000], ["0"] * 300 + ["9"], ["'"], ["%s%n"]]
 
@@ -104,11 +131,11 @@ BAD_GROUPS = [[], [""], ["4"], ["-1"], ["00"], ["x7"], ["0", "x"], ["\x01\x7f"],
 def main():
     program, maps = sys.argv[1], sys.argv[2]
     count = int(sys.argv[3]) if len(sys.argv) > 3 else 3000
-    resource.setrlimit(resource.RLIMIT_STACK, (8192 * 1024, resource.getrlimit(resource.RLIMIT_STACK)[1]))
     good = [open("%s/%s.bin" % (maps, name), "rb").read() for name in ("feeder", "competitor", "own_table")]
     r = random.Random(20261116)
     damages = [cut, cut_early, longer, header, table_words, table_words, table_words, entries, entries, noise, as_it_is]
-    failed, reports, apart = 0, 0, 0
+    failed, reports, apart = sizes(program, good[0]), 0, 0
+    stack(8192)
     for i in range(count):
         damage = r.choice(damages)
         data = damage(r, r.choice(good))
