@@ -2,4 +2,8 @@ pub mod Lists
 pub mod Pages
 pub mod Real
 pub mod None
-pub mod Why
+pub mod Law
+pub mod Searches
+pub mod Blocks
+pub mod Reasons
+pub mod Telling

@@ -6,7 +6,6 @@ use mathlib.Core.List.{List, [], _∷_, _++_, map, flatMap, map-append, map-map,
 use Prim.Native.Nat.{ℕ, _-_}
 use lib.Dec.{eqb}
 use Rattle.word.specs.Word.{if_then_else_}
-use Rattle.word.proofs.Truth.{and-true}
 use Rattle.layout.specs.Blocks.{block}
 use Rattle.records.specs.declared.Store.{Store}
 use Rattle.records.specs.declared.Walk.{Walk}
@@ -18,11 +17,35 @@ use Rattle.tlb.specs.Steps.{originOf}
 use Rattle.reach.specs.Lists.{range, select}
 use Rattle.reach.specs.Reach.{Pages, anyRights, grantsWrite, basesOf, storePages, namedBy, named, over, firstPages, secondPages, dataPages, writablePages, reach, tablePages, reached}
 use Rattle.reach.proofs.Lists.{flatMap-map, flatMap-ext, flatMap-append}
-use Rattle.reasons.specs.Ways.{Named, naming, Root, atOrigin, atWalk, atStore, Way, rootName, roots, entryName, nextName, rootWay, further, rootWays, nextWays, atLevel, firstWays, secondWays, dataWays, tableWays, writeWays, ways}
+use Rattle.reasons.specs.declared.Named.{Named}
+use Rattle.reasons.specs.declared.Root.{Root}
+use Rattle.reasons.specs.declared.Root.the-variants.{AtOrigin, AtWalk, AtStore}
+use Rattle.reasons.specs.declared.Way.{Way}
+use Rattle.reasons.specs.Ways.{naming, rootName, roots, entryName, nextName, rootWay, further, nextWays}
+use Rattle.reasons.specs.Why.{page}
 use Rattle.reasons.proofs.Lists.{select-join, select-none, select-all, select-both, select-flatMap, select-map, map-flatMap}
 
-abbrev pub page : Way → ℕ
-page w = w .names .page
+-- ---- ways by level
+
+-- the ways that end where they begin
+unfoldable pub rootWays : List ℕ → List ℕ → List Way
+rootWays cs t = flatMap (λ (k : ℕ). map (rootWay (block t k) k) (roots (block t k))) cs
+
+abbrev pub atLevel : ℕ → Way → Bool
+atLevel l w = eqb (w .names .level) l
+
+-- to first-level tables, to second-level tables, to data pages
+unfoldable pub firstWays : List ℕ → List ℕ → List Way
+firstWays cs t = select (atLevel 2) (rootWays cs t)
+
+unfoldable pub secondWays : List ℕ → List ℕ → List ℕ → List Way
+secondWays cs t m = flatMap (nextWays m) (firstWays cs t) ++ select (atLevel 1) (rootWays cs t)
+
+unfoldable pub dataWays : List ℕ → List ℕ → List ℕ → List Way
+dataWays cs t m = flatMap (nextWays m) (secondWays cs t m) ++ select (atLevel 0) (rootWays cs t)
+
+abbrev pub writeWays : List ℕ → List ℕ → List ℕ → List Way
+writeWays cs t m = select (λ (w : Way). w .names .write) (dataWays cs t m)
 
 -- ---- roots
 
@@ -31,20 +54,20 @@ module _ (t : List ℕ) (k : ℕ) (q : Way → Bool) where
   b = block t k
 
   -- the ways from walks and from stores that pass a test
-  from-walks : map page (select q (map (rootWay t k) (map atWalk (walkNumbers b)))) ≡ map (λ (n : ℕ). walkBa (walkIn b n)) (select (λ (n : ℕ). q (rootWay t k (atWalk n))) (walkNumbers b))
+  from-walks : map page (select q (map (rootWay (block t k) k) (map AtWalk (walkNumbers b)))) ≡ map (λ (n : ℕ). walkBa (walkIn b n)) (select (λ (n : ℕ). q (rootWay (block t k) k (AtWalk n))) (walkNumbers b))
   from-walks =
-      ap (λ (l : List Way). map page (select q l)) (map-map (rootWay t k) atWalk (walkNumbers b))
-      ∙ ap (map page) (select-map q (λ (n : ℕ). rootWay t k (atWalk n)) (walkNumbers b))
-      ∙ map-map page (λ (n : ℕ). rootWay t k (atWalk n)) (select (λ (n : ℕ). q (rootWay t k (atWalk n))) (walkNumbers b))
+      ap (λ (l : List Way). map page (select q l)) (map-map (rootWay (block t k) k) AtWalk (walkNumbers b))
+      ∙ ap (map page) (select-map q (λ (n : ℕ). rootWay (block t k) k (AtWalk n)) (walkNumbers b))
+      ∙ map-map page (λ (n : ℕ). rootWay (block t k) k (AtWalk n)) (select (λ (n : ℕ). q (rootWay (block t k) k (AtWalk n))) (walkNumbers b))
 
-  from-stores : map page (select q (map (rootWay t k) (map atStore (storeNumbers b)))) ≡ map (λ (n : ℕ). baseAddress (storeIn b n .address)) (select (λ (n : ℕ). q (rootWay t k (atStore n))) (storeNumbers b))
+  from-stores : map page (select q (map (rootWay (block t k) k) (map AtStore (storeNumbers b)))) ≡ map (λ (n : ℕ). baseAddress (storeIn b n .address)) (select (λ (n : ℕ). q (rootWay (block t k) k (AtStore n))) (storeNumbers b))
   from-stores =
-      ap (λ (l : List Way). map page (select q l)) (map-map (rootWay t k) atStore (storeNumbers b))
-      ∙ ap (map page) (select-map q (λ (n : ℕ). rootWay t k (atStore n)) (storeNumbers b))
-      ∙ map-map page (λ (n : ℕ). rootWay t k (atStore n)) (select (λ (n : ℕ). q (rootWay t k (atStore n))) (storeNumbers b))
+      ap (λ (l : List Way). map page (select q l)) (map-map (rootWay (block t k) k) AtStore (storeNumbers b))
+      ∙ ap (map page) (select-map q (λ (n : ℕ). rootWay (block t k) k (AtStore n)) (storeNumbers b))
+      ∙ map-map page (λ (n : ℕ). rootWay (block t k) k (AtStore n)) (select (λ (n : ℕ). q (rootWay (block t k) k (AtStore n))) (storeNumbers b))
 
   -- walks by their words
-  bases : (p : Walk → Bool) → ((n : ℕ) → q (rootWay t k (atWalk n)) ≡ p (walkIn b n)) → map page (select q (map (rootWay t k) (map atWalk (walkNumbers b)))) ≡ basesOf p (walks b)
+  bases : (p : Walk → Bool) → ((n : ℕ) → q (rootWay (block t k) k (AtWalk n)) ≡ p (walkIn b n)) → map page (select q (map (rootWay (block t k) k) (map AtWalk (walkNumbers b)))) ≡ basesOf p (walks b)
   unfolding walks
   bases p e =
       from-walks
@@ -52,37 +75,37 @@ module _ (t : List ℕ) (k : ℕ) (q : Way → Bool) where
       ∙ sym (map-map (λ (w : Walk). walkBa w) (walkIn b) (select (λ (n : ℕ). p (walkIn b n)) (walkNumbers b)))
       ∙ sym (ap (map (λ (w : Walk). walkBa w)) (select-map p (walkIn b) (walkNumbers b)))
 
-  all-stores : ((n : ℕ) → q (rootWay t k (atStore n)) ≡ true) → map page (select q (map (rootWay t k) (map atStore (storeNumbers b)))) ≡ storePages (stores b)
+  all-stores : ((n : ℕ) → q (rootWay (block t k) k (AtStore n)) ≡ true) → map page (select q (map (rootWay (block t k) k) (map AtStore (storeNumbers b)))) ≡ storePages (stores b)
   unfolding stores
   all-stores e =
       from-stores
-      ∙ ap (map (λ (n : ℕ). baseAddress (storeIn b n .address))) (select-all (λ (n : ℕ). q (rootWay t k (atStore n))) (storeNumbers b) e)
+      ∙ ap (map (λ (n : ℕ). baseAddress (storeIn b n .address))) (select-all (λ (n : ℕ). q (rootWay (block t k) k (AtStore n))) (storeNumbers b) e)
       ∙ sym (map-map (λ (s : Store). baseAddress (s .address)) (storeIn b) (storeNumbers b))
 
-  no-stores : ((n : ℕ) → q (rootWay t k (atStore n)) ≡ false) → map page (select q (map (rootWay t k) (map atStore (storeNumbers b)))) ≡ []
-  no-stores e = from-stores ∙ ap (map (λ (n : ℕ). baseAddress (storeIn b n .address))) (select-none (λ (n : ℕ). q (rootWay t k (atStore n))) (storeNumbers b) e)
+  no-stores : ((n : ℕ) → q (rootWay (block t k) k (AtStore n)) ≡ false) → map page (select q (map (rootWay (block t k) k) (map AtStore (storeNumbers b)))) ≡ []
+  no-stores e = from-stores ∙ ap (map (λ (n : ℕ). baseAddress (storeIn b n .address))) (select-none (λ (n : ℕ). q (rootWay (block t k) k (AtStore n))) (storeNumbers b) e)
 
   -- the three kinds of root in their order
-  root-pages : (x y z : List ℕ) → map page (select q (rootWay t k atOrigin ∷ [])) ≡ x
-      → map page (select q (map (rootWay t k) (map atWalk (walkNumbers b)))) ≡ y
-      → map page (select q (map (rootWay t k) (map atStore (storeNumbers b)))) ≡ z
-      → map page (select q (map (rootWay t k) (roots b))) ≡ x ++ (y ++ z)
+  root-pages : (x y z : List ℕ) → map page (select q (rootWay (block t k) k AtOrigin ∷ [])) ≡ x
+      → map page (select q (map (rootWay (block t k) k) (map AtWalk (walkNumbers b)))) ≡ y
+      → map page (select q (map (rootWay (block t k) k) (map AtStore (storeNumbers b)))) ≡ z
+      → map page (select q (map (rootWay (block t k) k) (roots b))) ≡ x ++ (y ++ z)
   unfolding roots
   root-pages x y z e f g =
-      let ws : List Way = map (rootWay t k) (map atWalk (walkNumbers b)) in
-      let ss : List Way = map (rootWay t k) (map atStore (storeNumbers b)) in
-      ap (λ (l : List Way). map page (select q (rootWay t k atOrigin ∷ l))) (map-append (rootWay t k) (map atWalk (walkNumbers b)) (map atStore (storeNumbers b)))
-      ∙ ap (map page) (select-join q (rootWay t k atOrigin ∷ []) (ws ++ ss))
-      ∙ map-append page (select q (rootWay t k atOrigin ∷ [])) (select q (ws ++ ss))
+      let ws : List Way = map (rootWay (block t k) k) (map AtWalk (walkNumbers b)) in
+      let ss : List Way = map (rootWay (block t k) k) (map AtStore (storeNumbers b)) in
+      ap (λ (l : List Way). map page (select q (rootWay (block t k) k AtOrigin ∷ l))) (map-append (rootWay (block t k) k) (map AtWalk (walkNumbers b)) (map AtStore (storeNumbers b)))
+      ∙ ap (map page) (select-join q (rootWay (block t k) k AtOrigin ∷ []) (ws ++ ss))
+      ∙ map-append page (select q (rootWay (block t k) k AtOrigin ∷ [])) (select q (ws ++ ss))
       ∙ ap₂ _++_ e (ap (map page) (select-join q ws ss) ∙ map-append page (select q ws) (select q ss) ∙ ap₂ _++_ f g)
 
 -- of all cores
-over-roots : (cs t : List ℕ) (q : Way → Bool) (f : List ℕ → List ℕ) → ((k : ℕ) → map page (select q (map (rootWay t k) (roots (block t k)))) ≡ f (block t k)) → map page (select q (rootWays cs t)) ≡ over cs t f
+over-roots : (cs t : List ℕ) (q : Way → Bool) (f : List ℕ → List ℕ) → ((k : ℕ) → map page (select q (map (rootWay (block t k) k) (roots (block t k)))) ≡ f (block t k)) → map page (select q (rootWays cs t)) ≡ over cs t f
 unfolding rootWays
 over-roots cs t q f e =
-    ap (map page) (select-flatMap q (λ (k : ℕ). map (rootWay t k) (roots (block t k))) cs)
-    ∙ map-flatMap page (λ (k : ℕ). select q (map (rootWay t k) (roots (block t k)))) cs
-    ∙ flatMap-ext (λ (k : ℕ). map page (select q (map (rootWay t k) (roots (block t k))))) (λ (k : ℕ). f (block t k)) cs e
+    ap (map page) (select-flatMap q (λ (k : ℕ). map (rootWay (block t k) k) (roots (block t k))) cs)
+    ∙ map-flatMap page (λ (k : ℕ). select q (map (rootWay (block t k) k) (roots (block t k)))) cs
+    ∙ flatMap-ext (λ (k : ℕ). map page (select q (map (rootWay (block t k) k) (roots (block t k))))) (λ (k : ℕ). f (block t k)) cs e
 
 -- ---- entries
 
@@ -135,7 +158,7 @@ module _ (cs t : List ℕ) where
       (λ k. root-pages t k (atLevel 2) (originOf (block t k) ∷ []) (basesOf (λ w. eqb (walkLevel w) 2) (walks (block t k))) [] (first-root k) (bases t k (atLevel 2) (λ w. eqb (walkLevel w) 2) (λ n. refl)) (no-stores t k (atLevel 2) (λ n. refl))
       ∙ ap (λ (l : List ℕ). originOf (block t k) ∷ l) (append-nil _))
     where
-      first-root : (k : ℕ) → map page (select (atLevel 2) (rootWay t k atOrigin ∷ [])) ≡ originOf (block t k) ∷ []
+      first-root : (k : ℕ) → map page (select (atLevel 2) (rootWay (block t k) k AtOrigin ∷ [])) ≡ originOf (block t k) ∷ []
       first-root k = refl
 
   module _ (m : List ℕ) where
@@ -148,7 +171,7 @@ module _ (cs t : List ℕ) where
         (λ k. root-pages t k (atLevel 1) [] (basesOf (λ w. eqb (walkLevel w) 1) (walks (block t k))) [] (second-root k) (bases t k (atLevel 1) (λ w. eqb (walkLevel w) 1) (λ n. refl)) (no-stores t k (atLevel 1) (λ n. refl))
         ∙ append-nil _))
       where
-        second-root : (k : ℕ) → map page (select (atLevel 1) (rootWay t k atOrigin ∷ [])) ≡ []
+        second-root : (k : ℕ) → map page (select (atLevel 1) (rootWay (block t k) k AtOrigin ∷ [])) ≡ []
         second-root k = refl
 
     pub data-pages : map page (dataWays cs t m) ≡ dataPages cs t m
@@ -159,7 +182,7 @@ module _ (cs t : List ℕ) where
         (over-roots cs t (atLevel 0) (λ b. basesOf complete (walks b) ++ storePages (stores b))
         (λ k. root-pages t k (atLevel 0) [] (basesOf complete (walks (block t k))) (storePages (stores (block t k))) (data-root k) (bases t k (atLevel 0) complete (λ n. refl)) (all-stores t k (atLevel 0) (λ n. refl))))
       where
-        data-root : (k : ℕ) → map page (select (atLevel 0) (rootWay t k atOrigin ∷ [])) ≡ []
+        data-root : (k : ℕ) → map page (select (atLevel 0) (rootWay (block t k) k AtOrigin ∷ [])) ≡ []
         data-root k = refl
 
     abbrev writing : Way → Bool
@@ -180,9 +203,5 @@ module _ (cs t : List ℕ) where
         ∙ over-roots cs t writing (λ b. basesOf (λ w. complete w && grantsWrite (walkR w)) (walks b) ++ storePages (stores b))
         (λ k. root-pages t k writing [] (basesOf (λ w. complete w && grantsWrite (walkR w)) (walks (block t k))) (storePages (stores (block t k))) (write-root k) (bases t k writing (λ w. complete w && grantsWrite (walkR w)) (λ n. refl)) (all-stores t k writing (λ n. refl))))
       where
-        write-root : (k : ℕ) → map page (select writing (rootWay t k atOrigin ∷ [])) ≡ []
+        write-root : (k : ℕ) → map page (select writing (rootWay (block t k) k AtOrigin ∷ [])) ≡ []
         write-root k = refl
-
-    pub table-pages : map page (tableWays cs t m) ≡ tablePages (reach cs t m)
-    unfolding reach
-    table-pages = map-append page (firstWays cs t) (secondWays cs t m) ∙ ap₂ _++_ first-pages second-pages

@@ -3,61 +3,45 @@
 use mathlib.Core.Path.{_≡_, refl, sym, ap, _∙_}
 use mathlib.Core.Bool.{Bool, true, false}
 use mathlib.Core.List.{List, [], _∷_, _++_, map, flatMap, map-id, append-nil}
-use Prim.Native.Nat.{ℕ, _-_}
-use lib.Dec.{leb}
-use borrow.Author.Tests.{eqb-true}
+use Prim.Native.Nat.{ℕ, zero, suc, _+_, _-_, _/_, _%_, _≤_, _<_}
+use native.Mathlib.Omega.{arith}
+use lib.Dec.{eqb, ltb}
+use borrow.Author.Tests.{ltb-true, eq-eqb}
 use Rattle.word.specs.Word.{if_then_else_}
 use Rattle.layout.specs.Blocks.{block}
 use Rattle.tlb.specs.declared.Entry.{Entry}
 use Rattle.tlb.specs.declared.Entry.the-variants.{Word, Missing}
 use Rattle.tlb.specs.Walks.{pteP, pteR, pteBa, entryAt, pteaAt}
-use Rattle.reach.specs.Lists.{range, select}
 use Rattle.reach.specs.Reach.{grantsWrite}
-use Rattle.reach.proofs.Lists.{Each, In, in-here, in-there, each-append, each-flatMap, flatMap-append, flatMap-ext, flatMap-each}
-use Rattle.reasons.specs.Grounds.{Real, Granting, Spoils, isTable}
-use Rattle.reasons.specs.Ways.{Named, naming, Root, Way, rootName, roots, entryName, nextName, follow, followed, rootWay, further, rootWays, nextWays, atLevel, firstWays, secondWays, dataWays, tableWays, writeWays, ways}
-
--- ---- lists of which each element has a property
-
-each-map : {A B : Type 0} (P : B → Type 0) (g : A → B) (l : List A) → Each (λ x. P (g x)) l → Each P (map g l)
-each-map P g [] e = tt
-each-map P g (x ∷ l) e = (e .0, each-map P g l (e .1))
-
-pub each-weak : {A : Type 0} (P Q : A → Type 0) (l : List A) → ((x : A) → P x → Q x) → Each P l → Each Q l
-each-weak P Q [] f e = tt
-each-weak P Q (x ∷ l) f e = (f x (e .0), each-weak P Q l f (e .1))
-
-pub each-select : {A : Type 0} (P : A → Type 0) (t : A → Bool) (l : List A) → Each P l → Each P (select t l)
-unfolding select
-each-select P t [] e = tt
-each-select P t (x ∷ l) e = go (t x) (each-select P t l (e .1))
-  where
-    go : (b : Bool) → Each P (select t l) → Each P (if b then x ∷ select t l else select t l)
-    go true r = (e .0, r)
-    go false r = r
-
-each-through : {A B : Type 0} (P : A → Type 0) (Q : B → Type 0) (f : A → List B) (l : List A) → ((x : A) → P x → Each Q (f x)) → Each P l → Each Q (flatMap f l)
-unfolding flatMap
-each-through P Q f [] g e = tt
-each-through P Q f (x ∷ l) g e = each-append Q (f x) (flatMap f l) (g x (e .0)) (each-through P Q f l g (e .1))
+use Rattle.reach.proofs.Lists.{Each, In, in-here, in-there, each-append, each-flatMap, flatMap-ext, flatMap-each, if-both}
+use Rattle.reasons.specs.declared.Named.{Named}
+use Rattle.reasons.specs.declared.Root.{Root}
+use Rattle.reasons.specs.declared.Way.{Way}
+use Rattle.reasons.specs.Grounds.{Real}
+use Rattle.reasons.specs.Ways.{naming, rootName, roots, entryName, nextName, entriesOf, placeOf, namedAt, follow, followed, rootWay, further, nextWays, onward, allFrom, coreWays, ways}
+use Rattle.reasons.proofs.Lists.{flat-flat, each-range, each-map, each-weak, each-through}
 
 -- ---- one entry more
 
-flat-flat : {A B C : Type 0} (g : B → List C) (f : A → List B) (l : List A) → flatMap g (flatMap f l) ≡ flatMap (λ x. flatMap g (f x)) l
-unfolding flatMap
-flat-flat g f [] = refl
-flat-flat {C = C} g f (x ∷ l) = flatMap-append g (f x) (flatMap f l) ∙ ap (λ (z : List C). flatMap g (f x) ++ z) (flat-flat g f l)
-
-follow-one : (m : List ℕ) (x : Named) (i : ℕ) → follow m x (i ∷ []) ≡ nextName m x i
+follow-one : (m : List ℕ) (x : Named) (a : ℕ) → follow m x (a ∷ []) ≡ namedAt m x a
 unfolding follow
-follow-one m x i = flatMap-each (λ (y : Named). y) (nextName m x i) ∙ map-id (nextName m x i)
+follow-one m x a = flatMap-each (λ (y : Named). y) (namedAt m x a) ∙ map-id (namedAt m x a)
 
-follow-more : (m : List ℕ) (x : Named) (l : List ℕ) (i : ℕ) → follow m x (l ++ (i ∷ [])) ≡ flatMap (λ (y : Named). nextName m y i) (follow m x l)
+follow-more : (m : List ℕ) (x : Named) (l : List ℕ) (a : ℕ) → follow m x (l ++ (a ∷ [])) ≡ flatMap (λ (y : Named). namedAt m y a) (follow m x l)
 unfolding follow flatMap
-follow-more m x [] i = follow-one m x i ∙ sym (append-nil (nextName m x i))
-follow-more m x (j ∷ l) i =
-    flatMap-ext (λ (y : Named). follow m y (l ++ (i ∷ []))) (λ (y : Named). flatMap (λ (z : Named). nextName m z i) (follow m y l)) (nextName m x j) (λ y. follow-more m y l i)
-    ∙ sym (flat-flat (λ (z : Named). nextName m z i) (λ (y : Named). follow m y l) (nextName m x j))
+follow-more m x [] a = follow-one m x a ∙ sym (append-nil (namedAt m x a))
+follow-more m x (b ∷ l) a =
+    flatMap-ext (λ (y : Named). follow m y (l ++ (a ∷ []))) (λ (y : Named). flatMap (λ (z : Named). namedAt m z a) (follow m y l)) (namedAt m x b) (λ y. follow-more m y l a)
+    ∙ sym (flat-flat (λ (z : Named). namedAt m z a) (λ (y : Named). follow m y l) (namedAt m x b))
+
+-- the entry at the address of entry i is entry i
+at-place : (m : List ℕ) (x : Named) (i : ℕ) → i < 1024 → namedAt m x (pteaAt (x .page) i) ≡ nextName m x i
+at-place m x i h =
+    let e : placeOf (pteaAt (x .page) i) ≡ i = omega arith in
+    rw e (same (eq-eqb (pteaAt (x .page) i) (pteaAt (x .page) i) refl))
+  where
+    same : eqb (pteaAt (x .page) i) (pteaAt (x .page) i) ≡ true → (if eqb (pteaAt (x .page) i) (pteaAt (x .page) i) then nextName m x i else []) ≡ nextName m x i
+    same q = rw q refl
 
 -- an entry names at most one page
 only : (x : Named) (e : Entry) → Each (λ (y : Named). entryName x e ≡ y ∷ []) (entryName x e)
@@ -71,114 +55,59 @@ only x (Word e) = go (pteP e)
     go false = tt
 only x Missing = tt
 
+-- the address of one entry more goes last
+more-entries : (n a b c : ℕ) → n < 2 → entriesOf (n + 1) (if eqb n 0 then c else a) (if eqb n 0 then 0 else c) ≡ entriesOf n a b ++ (c ∷ [])
+more-entries zero a b c h = refl
+more-entries (suc zero) a b c h = refl
+more-entries (suc (suc n)) a b c h = absurd (omega arith)
+
 -- ---- ways
 
 module _ (cs t m : List ℕ) where
   abbrev R : Way → Type 0
   R = Real cs t m
 
-  next-real : (w : Way) → R w → Each R (nextWays m w)
+  -- a real way that has gone through at most n entries
+  abbrev Short : ℕ → Way → Type 0
+  Short n w = R w × (w .entries ≤ n)
+
+  next-real : (n : ℕ) (w : Way) → n < 2 → Short n w → Each (Short (n + 1)) (nextWays m w)
   unfolding nextWays flatMap
-  next-real w r = each-flatMap R (λ (i : ℕ). map (further w i) (nextName m (w .names) i)) (range 1024) (λ i. each-map R (further w i) (nextName m (w .names) i) (each-weak (λ (y : Named). nextName m (w .names) i ≡ y ∷ []) (λ (y : Named). R (further w i y)) (nextName m (w .names) i) (λ y e. more i y e) (only (w .names) (entryAt m (pteaAt (w .names .page) i)))))
+  next-real n w few (r, s) = each-range (Short (n + 1)) (λ (i : ℕ). map (further w i) (nextName m (w .names) i)) 1024 (λ i h. each-map (Short (n + 1)) (further w i) (nextName m (w .names) i) (each-weak (λ (y : Named). nextName m (w .names) i ≡ y ∷ []) (λ (y : Named). Short (n + 1) (further w i y)) (nextName m (w .names) i) (λ y e. (more i y h e, omega arith)) (only (w .names) (entryAt m (pteaAt (w .names .page) i)))))
     where
-      more : (i : ℕ) (y : Named) → nextName m (w .names) i ≡ y ∷ [] → R (further w i y)
-      more i y e =
+      x : Named
+      x = rootName (block t (w .core)) (w .root)
+
+      more : (i : ℕ) (y : Named) → i < 1024 → nextName m (w .names) i ≡ y ∷ [] → R (further w i y)
+      more i y h e =
           record {
             follows =
-                follow-more m (rootName (block t (w .core)) (w .root)) (w .entries) i
-                ∙ ap (flatMap (λ (z : Named). nextName m z i)) (r .follows)
-                ∙ append-nil (nextName m (w .names) i)
+                ap (follow m x) (more-entries (w .entries) (w .first) (w .second) (pteaAt (w .names .page) i) (omega arith))
+                ∙ follow-more m x (entriesOf (w .entries) (w .first) (w .second)) (pteaAt (w .names .page) i)
+                ∙ ap (flatMap (λ (z : Named). namedAt m z (pteaAt (w .names .page) i))) (r .follows)
+                ∙ append-nil (namedAt m (w .names) (pteaAt (w .names .page) i))
+                ∙ at-place m (w .names) i h
                 ∙ e;
             of-core = r .of-core;
           }
 
-  root-real : (k : ℕ) → In k cs → (l : List Root) → Each R (map (rootWay t k) l)
-  unfolding follow
-  root-real k h [] = tt
-  root-real k h (r ∷ l) = (record { follows = refl; of-core = h }, root-real k h l)
+  onward-real : (d n : ℕ) (w : Way) → d + n ≤ 2 → Short n w → Each R (onward m d w)
+  unfolding onward
+  onward-real zero n w few s = (s .0, tt)
+  onward-real (suc d) n w few s = (s .0, each-through (Short (n + 1)) R (onward m d) (nextWays m w) (λ v k. onward-real d (n + 1) v (omega arith) k) (next-real n w (omega arith) s))
 
-  roots-real : (l : List ℕ) → ((k : ℕ) → In k l → In k cs) → Each R (rootWays l t)
-  unfolding rootWays flatMap
-  roots-real [] f = tt
-  roots-real (k ∷ l) f = each-append R (map (rootWay t k) (roots (block t k))) (rootWays l t) (root-real k (f k (in-here k l)) (roots (block t k))) (roots-real l (λ j h. f j (in-there j k l h)))
+  from-real : (w : Way) → Short 0 w → Each R (allFrom m w)
+  unfolding allFrom
+  from-real w s = if-both (Each R) (ltb (w .names .level) 3) (onward m (w .names .level) w) [] (λ e. let h = ltb-true (w .names .level) 3 e in onward-real (w .names .level) 0 w (omega arith) s) (λ _. tt)
 
-  first-real : Each R (firstWays cs t)
-  unfolding firstWays
-  first-real = each-select R (atLevel 2) (rootWays cs t) (roots-real cs (λ k h. h))
+  core-real : (k : ℕ) → In k cs → Each R (coreWays t m k)
+  unfolding coreWays follow
+  core-real k h = each-flatMap R (λ (r : Root). allFrom m (rootWay (block t k) k r)) (roots (block t k)) (λ r. from-real (rootWay (block t k) k r) (record { follows = refl; of-core = h }, omega arith))
 
-  second-real : Each R (secondWays cs t m)
-  unfolding secondWays
-  second-real = each-append R (flatMap (nextWays m) (firstWays cs t)) (select (atLevel 1) (rootWays cs t)) (each-through R R (nextWays m) (firstWays cs t) next-real first-real) (each-select R (atLevel 1) (rootWays cs t) (roots-real cs (λ k h. h)))
-
-  data-real : Each R (dataWays cs t m)
-  unfolding dataWays
-  data-real = each-append R (flatMap (nextWays m) (secondWays cs t m)) (select (atLevel 0) (rootWays cs t)) (each-through R R (nextWays m) (secondWays cs t m) next-real second-real) (each-select R (atLevel 0) (rootWays cs t) (roots-real cs (λ k h. h)))
-
-  pub table-real : Each R (tableWays cs t m)
-  table-real = each-append R (firstWays cs t) (secondWays cs t m) first-real second-real
-
-  pub write-real : Each R (writeWays cs t m)
-  write-real = each-select R (λ (w : Way). w .names .write) (dataWays cs t m) data-real
+  of-cores : (l : List ℕ) → ((k : ℕ) → In k l → In k cs) → Each R (ways l t m)
+  unfolding ways flatMap
+  of-cores [] f = tt
+  of-cores (k ∷ l) f = each-append R (coreWays t m k) (ways l t m) (core-real k (f k (in-here k l))) (of-cores l (λ j h. f j (in-there j k l h)))
 
   pub ways-real : Each R (ways cs t m)
-  ways-real = each-append R (tableWays cs t m) (dataWays cs t m) table-real data-real
-
--- ---- levels
-
-each-all : {A : Type 0} (P : A → Type 0) (t : A → Bool) (l : List A) → ((x : A) → t x ≡ true → P x) → Each P (select t l)
-unfolding select
-each-all P t [] f = tt
-each-all P t (x ∷ l) f = go (t x) refl (each-all P t l f)
-  where
-    go : (b : Bool) → t x ≡ b → Each P (select t l) → Each P (if b then x ∷ select t l else select t l)
-    go true e r = (f x e, r)
-    go false e r = r
-
-abbrev AtLevel : ℕ → Way → Type 0
-AtLevel l w = w .names .level ≡ l
-
--- an entry leads one level down
-down : (m : List ℕ) (l : ℕ) (w : Way) → AtLevel l w → Each (AtLevel (l - 1)) (nextWays m w)
-unfolding nextWays flatMap
-down m l w e =
-    each-flatMap (AtLevel (l - 1)) (λ (i : ℕ). map (further w i) (nextName m (w .names) i)) (range 1024)
-    (λ i. each-map (AtLevel (l - 1)) (further w i) (nextName m (w .names) i) (one (entryAt m (pteaAt (w .names .page) i))))
-  where
-    one : (e′ : Entry) → Each (λ (y : Named). y .level ≡ l - 1) (entryName (w .names) e′)
-    one (Word v) = by (pteP v)
-      where
-        by : (p : Bool) → Each (λ (y : Named). y .level ≡ l - 1) (if p then naming (w .names .level - 1) (pteBa v) (grantsWrite (pteR v)) ∷ [] else [])
-        by true = (ap (λ (n : ℕ). n - 1) e, tt)
-        by false = tt
-    one Missing = tt
-
-writing : (l : List Way) → Each (AtLevel 0) l → Each Granting (select (λ (w : Way). w .names .write) l)
-unfolding select
-writing [] e = tt
-writing (w ∷ l) e = go (w .names .write) refl (writing l (e .1))
-  where
-    go : (b : Bool) → w .names .write ≡ b → Each Granting (select (λ (v : Way). v .names .write) l) → Each Granting (if b then w ∷ select (λ (v : Way). v .names .write) l else select (λ (v : Way). v .names .write) l)
-    go true q r = (record { level = e .0; write = q }, r)
-    go false q r = r
-
-module _ (cs t m : List ℕ) where
-  first-level : Each (AtLevel 2) (firstWays cs t)
-  unfolding firstWays
-  first-level = each-all (AtLevel 2) (atLevel 2) (rootWays cs t) (λ w e. eqb-true (w .names .level) 2 e)
-
-  second-level : Each (AtLevel 1) (secondWays cs t m)
-  unfolding secondWays
-  second-level = each-append (AtLevel 1) (flatMap (nextWays m) (firstWays cs t)) (select (atLevel 1) (rootWays cs t)) (each-through (AtLevel 2) (AtLevel 1) (nextWays m) (firstWays cs t) (down m 2) first-level) (each-all (AtLevel 1) (atLevel 1) (rootWays cs t) (λ w e. eqb-true (w .names .level) 1 e))
-
-  data-level : Each (AtLevel 0) (dataWays cs t m)
-  unfolding dataWays
-  data-level = each-append (AtLevel 0) (flatMap (nextWays m) (secondWays cs t m)) (select (atLevel 0) (rootWays cs t)) (each-through (AtLevel 1) (AtLevel 0) (nextWays m) (secondWays cs t m) (down m 1) second-level) (each-all (AtLevel 0) (atLevel 0) (rootWays cs t) (λ w e. eqb-true (w .names .level) 0 e))
-
-  pub write-kind : Each Granting (writeWays cs t m)
-  write-kind = writing (dataWays cs t m) data-level
-
-  pub table-kind : Each Spoils (tableWays cs t m)
-  table-kind =
-      each-append Spoils (firstWays cs t) (secondWays cs t m)
-      (each-weak (AtLevel 2) Spoils (firstWays cs t) (λ w e. isTable (ap (leb 1) e)) first-level)
-      (each-weak (AtLevel 1) Spoils (secondWays cs t m) (λ w e. isTable (ap (leb 1) e)) second-level)
+  ways-real = of-cores cs (λ k h. h)

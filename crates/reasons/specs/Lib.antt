@@ -1,3 +1,4 @@
 pub mod Ways
 pub mod Why
 pub mod Grounds
+pub mod inner

@@ -2,8 +2,8 @@
 -- Assumes nothing.
 use mathlib.Core.Bool.{Bool, false, true}
 use mathlib.Core.List.{List, [], _∷_, _++_, map, flatMap}
-use Prim.Native.Nat.{ℕ, _-_}
-use lib.Dec.{eqb}
+use Prim.Native.Nat.{ℕ, zero, suc, _+_, _-_, _/_, _%_}
+use lib.Dec.{eqb, ltb}
 use Rattle.word.specs.Word.{if_then_else_}
 use Rattle.layout.specs.Blocks.{block}
 use Rattle.records.specs.declared.Store.{Store}
@@ -13,23 +13,15 @@ use Rattle.tlb.specs.declared.Entry.{Entry}
 use Rattle.tlb.specs.declared.Entry.the-variants.{Word, Missing}
 use Rattle.tlb.specs.Walks.{walkLevel, walkR, walkBa, baseAddress, entryAt, pteaAt, pteP, pteR, pteBa}
 use Rattle.tlb.specs.Steps.{originOf}
-use Rattle.reach.specs.Lists.{range, select}
+use Rattle.reach.specs.Lists.{range}
 use Rattle.reach.specs.Reach.{grantsWrite}
-
--- a page by what it is: level 2 a first-level table, 1 a second-level table, 0 a data page; and whether what names it grants write
-pub record Named : Type 0 where
-  pub level : ℕ
-  pub page : ℕ
-  pub write : Bool
+use Rattle.reasons.specs.declared.Named.{Named}
+use Rattle.reasons.specs.declared.Root.{Root}
+use Rattle.reasons.specs.declared.Root.the-variants.{AtOrigin, AtWalk, AtStore}
+use Rattle.reasons.specs.declared.Way.{Way}
 
 abbrev pub naming : ℕ → ℕ → Bool → Named
 naming l p w = record { level = l; page = p; write = w }
-
--- the page in pto; the walk, or the pending store, in a record
-pub data Root : Type 0 where
-  atOrigin : Root
-  atWalk : ℕ → Root
-  atStore : ℕ → Root
 
 -- what a walk and a pending store name
 abbrev pub walkName : Walk → Named
@@ -40,13 +32,13 @@ storeName s = naming 0 (baseAddress (s .address)) true
 
 -- what a root of the block b names
 abbrev pub rootName : List ℕ → Root → Named
-rootName b atOrigin = naming 2 (originOf b) false
-rootName b (atWalk n) = walkName (walkIn b n)
-rootName b (atStore n) = storeName (storeIn b n)
+rootName b AtOrigin = naming 2 (originOf b) false
+rootName b (AtWalk n) = walkName (walkIn b n)
+rootName b (AtStore n) = storeName (storeIn b n)
 
 -- the roots of a block
 unfoldable pub roots : List ℕ → List Root
-roots b = atOrigin ∷ (map atWalk (walkNumbers b) ++ map atStore (storeNumbers b))
+roots b = AtOrigin ∷ (map AtWalk (walkNumbers b) ++ map AtStore (storeNumbers b))
 
 -- what an entry of a table names, which is itself named x
 abbrev pub entryName : Named → Entry → List Named
@@ -59,52 +51,58 @@ nextName m x i = entryName x (entryAt m (pteaAt (x .page) i))
 
 -- ---- ways
 
--- a core, where it begins, the entries that it goes through by their places in their tables, and what it comes to
-pub record Way : Type 0 where
-  pub core : ℕ
-  pub root : Root
-  pub entries : List ℕ
-  pub names : Named
+-- the addresses of the entries that a way goes through
+abbrev pub entriesOf : ℕ → ℕ → ℕ → List ℕ
+entriesOf zero a b = []
+entriesOf (suc zero) a b = a ∷ []
+entriesOf (suc (suc n)) a b = a ∷ (b ∷ [])
 
--- what stands at the end of a way, followed entry by entry: nothing where an entry is absent
+-- the place in its table of the entry at address a; what that entry names, if it is one of the table that is named x
+abbrev pub placeOf : ℕ → ℕ
+placeOf a = a / 4 % 1024
+
+abbrev pub namedAt : List ℕ → Named → ℕ → List Named
+namedAt m x a = if eqb (pteaAt (x .page) (placeOf a)) a then nextName m x (placeOf a) else []
+
+-- what stands at the end of a way, followed entry by entry: nothing where an entry is absent, or none of the table
 unfoldable pub follow : List ℕ → Named → List ℕ → List Named
 follow m x [] = x ∷ []
-follow m x (i ∷ l) = flatMap (λ (y : Named). follow m y l) (nextName m x i)
+follow m x (a ∷ l) = flatMap (λ (y : Named). follow m y l) (namedAt m x a)
 
 abbrev pub followed : List ℕ → List ℕ → Way → List Named
-followed t m w = follow m (rootName (block t (w .core)) (w .root)) (w .entries)
+followed t m w = follow m (rootName (block t (w .core)) (w .root)) (entriesOf (w .entries) (w .first) (w .second))
 
+-- the way that ends where it begins, at a root of core k's block b; one that goes on by entry i, which names x
 abbrev pub rootWay : List ℕ → ℕ → Root → Way
-rootWay t k r = record { core = k; root = r; entries = []; names = rootName (block t k) r }
+rootWay b k r = record { core = k; root = r; entries = 0; first = 0; second = 0; names = rootName b r }
 
 abbrev pub further : Way → ℕ → Named → Way
-further w i x = record { core = w .core; root = w .root; entries = w .entries ++ (i ∷ []); names = x }
+further w i x =
+    record {
+      core = w .core;
+      root = w .root;
+      entries = w .entries + 1;
+      first = if eqb (w .entries) 0 then pteaAt (w .names .page) i else w .first;
+      second = if eqb (w .entries) 0 then 0 else pteaAt (w .names .page) i;
+      names = x;
+    }
 
--- the ways that begin in the blocks of the cores cs; those that go on from w by one entry
-unfoldable pub rootWays : List ℕ → List ℕ → List Way
-rootWays cs t = flatMap (λ (k : ℕ). map (rootWay t k) (roots (block t k))) cs
-
+-- the ways that go on from w by one entry
 unfoldable pub nextWays : List ℕ → Way → List Way
 nextWays m w = flatMap (λ (i : ℕ). map (further w i) (nextName m (w .names) i)) (range 1024)
 
-abbrev pub atLevel : ℕ → Way → Bool
-atLevel l w = eqb (w .names .level) l
+-- w and all that go on from it, n levels down
+unfoldable pub onward : List ℕ → ℕ → Way → List Way
+onward m zero w = w ∷ []
+onward m (suc n) w = w ∷ flatMap (onward m n) (nextWays m w)
 
--- to first-level tables, to second-level tables, to data pages
-unfoldable pub firstWays : List ℕ → List ℕ → List Way
-firstWays cs t = select (atLevel 2) (rootWays cs t)
+-- w and all that go on from it; a walk of level 3 names nothing
+unfoldable pub allFrom : List ℕ → Way → List Way
+allFrom m w = if ltb (w .names .level) 3 then onward m (w .names .level) w else []
 
-unfoldable pub secondWays : List ℕ → List ℕ → List ℕ → List Way
-secondWays cs t m = flatMap (nextWays m) (firstWays cs t) ++ select (atLevel 1) (rootWays cs t)
+-- the ways that begin in the block of core k; those of the cores cs
+unfoldable pub coreWays : List ℕ → List ℕ → ℕ → List Way
+coreWays t m k = flatMap (λ (r : Root). allFrom m (rootWay (block t k) k r)) (roots (block t k))
 
-unfoldable pub dataWays : List ℕ → List ℕ → List ℕ → List Way
-dataWays cs t m = flatMap (nextWays m) (secondWays cs t m) ++ select (atLevel 0) (rootWays cs t)
-
-abbrev pub tableWays : List ℕ → List ℕ → List ℕ → List Way
-tableWays cs t m = firstWays cs t ++ secondWays cs t m
-
-abbrev pub writeWays : List ℕ → List ℕ → List ℕ → List Way
-writeWays cs t m = select (λ (w : Way). w .names .write) (dataWays cs t m)
-
-abbrev pub ways : List ℕ → List ℕ → List ℕ → List Way
-ways cs t m = tableWays cs t m ++ dataWays cs t m
+unfoldable pub ways : List ℕ → List ℕ → List ℕ → List Way
+ways cs t m = flatMap (coreWays t m) cs

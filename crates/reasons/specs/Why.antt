@@ -1,108 +1,160 @@
--- Why a group is not apart: the first reason in the order of 01's conditions ('Apart'), with the lowest page at fault and a way to it.
+-- Reason a group is not apart: the first reason in the order of 01's conditions ('Apart'), with the lowest page at fault and a way to it.
 -- Assumes nothing.
-use mathlib.Core.Bool.{Bool, _&&_, _||_, not}
-use mathlib.Core.List.{List, [], _∷_, _++_}
-use Prim.Native.Nat.{ℕ}
+use mathlib.Core.Bool.{Bool, true, false, _&&_, _||_, not}
+use mathlib.Core.List.{List, [], _∷_}
+use Prim.Native.Nat.{ℕ, zero, suc, _+_, _-_}
 use lib.Dec.{eqb, ltb}
 use lib.ListN.{length}
-use Rattle.word.specs.Word.{if_then_else_, isSet}
+use Rattle.word.specs.Word.{if_then_else_, isSet, flag}
 use Rattle.layout.specs.Blocks.{block}
 use Rattle.tables.specs.Views.{coresOf, pagesOf, runs}
 use Rattle.tables.specs.Sound.{sound}
 use Rattle.reach.specs.Lists.{range, has, select}
 use Rattle.reach.specs.Reach.{Pages, isGroup, members, reach, tablePages, reached}
 use Rattle.separation.specs.Apart.{rest, runsAsUser}
-use Rattle.reasons.specs.Ways.{Way, tableWays, writeWays, ways}
+use Rattle.reasons.specs.declared.Root.{Root}
+use Rattle.reasons.specs.declared.Root.the-variants.{AtOrigin, AtWalk, AtStore}
+use Rattle.reasons.specs.declared.Way.{Way}
+use Rattle.reasons.specs.declared.Found.{Found}
+use Rattle.reasons.specs.declared.Found.the-variants.{Nothing, Lowest}
+use Rattle.reasons.specs.declared.Side.{Side}
+use Rattle.reasons.specs.declared.Side.the-variants.{Group, Rest}
+use Rattle.reasons.specs.declared.Reason.{Reason}
+use Rattle.reasons.specs.declared.Reason.the-variants.{NoReason, Refused, NotUser, BeyondMemory, OwnTable, Touches}
+use Rattle.reasons.specs.Ways.{ways}
 
--- ---- searches
+-- ---- the way to the lowest page, the first of them
 
-pub data Search (A : Type 0) : Type 0 where
-  empty : Search A
-  just : A → Search A
+abbrev pub page : Way → ℕ
+page w = w .names .page
 
--- the first element that passes a test
-unfoldable pub firstOf : {A : Type 0} → (A → Bool) → List A → Search A
-firstOf p [] = empty
-firstOf p (x ∷ l) = if p x then just x else firstOf p l
+unfoldable pub lower : Found → Found → Found
+lower Nothing b = b
+lower (Lowest v) Nothing = Lowest v
+lower (Lowest v) (Lowest w) = if ltb (page w) (page v) then Lowest w else Lowest v
 
--- the least number of a list
-abbrev pub lesser : ℕ → Search ℕ → Search ℕ
-lesser x empty = just x
-lesser x (just y) = if ltb y x then just y else just x
-
-unfoldable pub leastOf : List ℕ → Search ℕ
-leastOf [] = empty
-leastOf (x ∷ l) = lesser x (leastOf l)
-
-abbrev pub orElse : {A : Type 0} → Search A → Search A → Search A
-orElse empty b = b
-orElse (just x) b = just x
+unfoldable pub lowest : List Way → Found
+lowest [] = Nothing
+lowest (w ∷ l) = lower (Lowest w) (lowest l)
 
 -- ---- reasons
 
-pub data Side : Type 0 where
-  ofGroup : Side
-  ofRest : Side
+-- a way that comes to a data page and grants write; one that grants write or comes to a table
+abbrev pub grants : Way → Bool
+grants w = eqb (w .names .level) 0 && w .names .write
 
--- noReason: the group is apart. notUser: a core that is not running in user mode. beyondMemory: a page beyond memory. ownTable: a page that a side can write
--- and uses as a table, by a way that grants write. touches: a page that the group reaches, by a way of the rest that grants write or uses it as a table.
-pub data Why : Type 0 where
-  noReason : Why
-  refusedWith : ℕ → Why
-  notUser : ℕ → Why
-  beyondMemory : Side → Way → Why
-  ownTable : Side → Way → Why
-  touches : Way → Why
+abbrev pub spoils : Way → Bool
+spoils w = not (eqb (w .names .level) 0) || w .names .write
 
--- the first way among some to the page found
-abbrev pub byWay : (Way → Why) → Search Way → Search Why
-byWay f empty = empty
-byWay f (just w) = just (f w)
-
-abbrev pub byPage : (Way → Why) → List Way → Search ℕ → Search Why
-byPage f l empty = empty
-byPage f l (just p) = byWay f (firstOf (λ (w : Way). eqb p (w .names .page)) l)
+abbrev pub byWay : (Way → Reason) → Found → Reason
+byWay f Nothing = NoReason
+byWay f (Lowest w) = f w
 
 -- a core of either side that is not running in user mode
 abbrev pub fails : ℕ → List ℕ → ℕ → Bool
 fails g t k = (isSet g k || runs (block t k)) && not (runsAsUser t k)
 
-abbrev pub byCore : Search ℕ → Search Why
-byCore empty = empty
-byCore (just k) = just (notUser k)
+unfoldable pub firstFailing : ℕ → List ℕ → List ℕ → Reason
+firstFailing g t [] = NoReason
+firstFailing g t (k ∷ l) = if fails g t k then NotUser k else firstFailing g t l
 
-unfoldable pub modeReason : ℕ → List ℕ → Search Why
-modeReason g t = byCore (firstOf (fails g t) (range (coresOf t)))
+unfoldable pub modeReason : ℕ → List ℕ → Reason
+modeReason g t = firstFailing g t (range (coresOf t))
 
 -- a side is its cores cs
-unfoldable pub beyondReason : Side → List ℕ → List ℕ → List ℕ → Search Why
-beyondReason s cs t m = byPage (beyondMemory s) (ways cs t m) (leastOf (select (λ p. not (ltb p (pagesOf t))) (reached (reach cs t m))))
+unfoldable pub beyondReason : Side → List ℕ → List ℕ → List ℕ → Reason
+beyondReason s cs t m = byWay (BeyondMemory s) (lowest (select (λ w. not (ltb (page w) (pagesOf t))) (ways cs t m)))
 
-unfoldable pub writesReason : Side → List ℕ → List ℕ → List ℕ → Search Why
-writesReason s cs t m =
-    byPage (ownTable s) (writeWays cs t m)
-    (firstOf (λ p. has p (reach cs t m .writables) && has p (tablePages (reach cs t m))) (range (pagesOf t)))
+unfoldable pub tableReason : Side → List ℕ → List ℕ → List ℕ → Reason
+tableReason s cs t m =
+    byWay (OwnTable s)
+    (lowest (select (λ w. grants w && (ltb (page w) (pagesOf t) && has (page w) (tablePages (reach cs t m)))) (ways cs t m)))
 
 -- the group's cores and the others'
-unfoldable pub meetsReason : List ℕ → List ℕ → List ℕ → List ℕ → Search Why
-meetsReason cs os t m =
-    byPage touches (writeWays os t m ++ tableWays os t m)
-    (firstOf (λ p. has p (reached (reach cs t m)) && has p (reach os t m .writables ++ tablePages (reach os t m))) (range (pagesOf t)))
+unfoldable pub touchReason : List ℕ → List ℕ → List ℕ → List ℕ → Reason
+touchReason cs os t m =
+    byWay Touches
+    (lowest (select (λ w. spoils w && (ltb (page w) (pagesOf t) && has (page w) (reached (reach cs t m)))) (ways os t m)))
 
--- the first of them
-unfoldable pub reasons : ℕ → List ℕ → List ℕ → List ℕ → List ℕ → Search Why
-reasons g cs os t m =
-    orElse (modeReason g t)
-    (orElse (orElse (beyondReason ofGroup cs t m) (beyondReason ofRest os t m))
-    (orElse (orElse (writesReason ofGroup cs t m) (writesReason ofRest os t m))
-    (meetsReason cs os t m)))
+-- the reasons in their order, by numbers 1 to 6
+unfoldable pub reasonAt : ℕ → List ℕ → List ℕ → ℕ → Reason
+reasonAt g t m n =
+    if eqb n 1 then modeReason g t
+    else if eqb n 2 then beyondReason Group (members g (coresOf t)) t m
+    else if eqb n 3 then beyondReason Rest (rest g t) t m
+    else if eqb n 4 then tableReason Group (members g (coresOf t)) t m
+    else if eqb n 5 then tableReason Rest (rest g t) t m
+    else touchReason (members g (coresOf t)) (rest g t) t m
 
-abbrev pub orNone : Search Why → Why
-orNone empty = noReason
-orNone (just r) = r
+-- the number for each answer: 0 no reason, 1 to 6 a reason, 100 and 01's number of a refusal
+abbrev pub sideNumber : Side → ℕ
+sideNumber Group = 0
+sideNumber Rest = 1
 
-unfoldable pub why : ℕ → List ℕ → List ℕ → Why
-why g t m =
-    if not (sound t (length m)) then refusedWith 4
-    else if not (isGroup g (coresOf t)) then refusedWith 13
-    else orNone (reasons g (members g (coresOf t)) (rest g t) t m)
+abbrev pub whyNumber : Reason → ℕ
+whyNumber NoReason = 0
+whyNumber (Refused n) = 100 + n
+whyNumber (NotUser k) = 1
+whyNumber (BeyondMemory s w) = 2 + sideNumber s
+whyNumber (OwnTable s w) = 4 + sideNumber s
+whyNumber (Touches w) = 6
+
+abbrev pub orElse : Reason → Reason → Reason
+orElse a b = if eqb (whyNumber a) 0 then b else a
+
+-- the first of d reasons after reason a
+unfoldable pub firstAfter : ℕ → List ℕ → List ℕ → ℕ → ℕ → Reason
+firstAfter g t m zero a = NoReason
+firstAfter g t m (suc d) a = orElse (reasonAt g t m (a + 1)) (firstAfter g t m d (a + 1))
+
+-- the first reason after reason a; after 0, the first of all
+unfoldable pub whyAfter : ℕ → ℕ → List ℕ → List ℕ → Reason
+whyAfter a g t m =
+    if not (sound t (length m)) then Refused 4
+    else if not (isGroup g (coresOf t)) then Refused 13
+    else firstAfter g t m (6 - a) a
+
+-- ---- an answer in words
+
+abbrev pub rootNumber : Root → ℕ
+rootNumber AtOrigin = 0
+rootNumber (AtWalk n) = 1
+rootNumber (AtStore n) = 2
+
+abbrev pub recordNumber : Root → ℕ
+recordNumber AtOrigin = 0
+recordNumber (AtWalk n) = n
+recordNumber (AtStore n) = n
+
+-- core, page, level, write right, where the way begins (0 pto, 1 walk, 2 pending store) and in which record, number and addresses of the entries
+unfoldable pub wayWords : Way → List ℕ
+wayWords w =
+    w .core
+    ∷ (page w
+    ∷ (w .names .level
+    ∷ (flag (w .names .write)
+    ∷ (rootNumber (w .root) ∷ (recordNumber (w .root) ∷ (w .entries ∷ (w .first ∷ (w .second ∷ []))))))))
+
+-- of a core alone, the core
+unfoldable pub coreWords : ℕ → List ℕ
+coreWords k = k ∷ (0 ∷ (0 ∷ (0 ∷ (0 ∷ (0 ∷ (0 ∷ (0 ∷ (0 ∷ []))))))))
+
+unfoldable pub whyWords : Reason → List ℕ
+whyWords NoReason = coreWords 0
+whyWords (Refused n) = coreWords 0
+whyWords (NotUser k) = coreWords k
+whyWords (BeyondMemory s w) = wayWords w
+whyWords (OwnTable s w) = wayWords w
+whyWords (Touches w) = wayWords w
+
+-- the operation: the number for the answer, and the rest of it in nine lent words; a refusal writes nothing
+pub record Told : Type 0 where
+  pub number : ℕ
+  pub words : List ℕ
+
+unfoldable pub told : ℕ → ℕ → List ℕ → List ℕ → List ℕ → Told
+told a g t m o =
+    if not (sound t (length m)) then record { number = 104; words = o }
+    else if not (eqb (length o) 9) then record { number = 112; words = o }
+    else if not (isGroup g (coresOf t)) then record { number = 113; words = o }
+    else record { number = whyNumber (whyAfter a g t m); words = whyWords (whyAfter a g t m) }

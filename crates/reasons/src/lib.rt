@@ -1,1 +1,95 @@
-// Why a group is not apart (specs/Why.antt), with what holds of the answer (specs/Grounds.antt), proved in proofs/. There is no code here yet.
+// Reason a group is not apart (specs/Why.antt), with what holds of the answer (specs/Grounds.antt), proved in proofs/.
+mod judge;
+mod roots;
+mod search;
+mod words;
+
+use layout::CORES;
+ghost use mathlib.Core.Path.{_≡_};
+ghost use Rattle.separation.specs.declared.Verdict.the-variants as verdict;
+ghost use Rattle.separation.specs.Apart.{apartOn};
+ghost use Rattle.reasons.specs.Why as x;
+ghost use Rattle.reasons.specs.Grounds.{Grounded};
+
+// A page by what it is: level 2 a first-level table, 1 a second-level table, 0 a data page; and whether what names it grants write.
+pub struct Named {
+    pub level: u32,
+    pub page: u32,
+    pub write: bool,
+}
+
+// Where a way begins: at the page in pto, at the walk or at the pending store in a record.
+pub enum Root {
+    AtOrigin,
+    AtWalk(u32),
+    AtStore(u32),
+}
+
+// A way: a core, where it begins, the entries that it goes through (how many, and their addresses, zero where there is none), and what it comes to.
+pub struct Way {
+    pub core: u32,
+    pub root: Root,
+    pub entries: u32,
+    pub first: u32,
+    pub second: u32,
+    pub names: Named,
+}
+
+// The way to the lowest page among some.
+pub enum Found {
+    Nothing,
+    Lowest(Way),
+}
+
+pub enum Side {
+    Group,
+    Rest,
+}
+
+// NoReason: no condition fails. NotUser: a core that is not running in user mode. BeyondMemory: a page beyond memory. OwnTable: a page that a side can
+// write and uses as a table, by a way that grants write. Touches: a page that the group reaches, by a way of the rest that grants write or uses it as a
+// table.
+pub enum Reason {
+    NoReason,
+    Refused(u32),
+    NotUser(u32),
+    BeyondMemory(Side, Way),
+    OwnTable(Side, Way),
+    Touches(Way),
+}
+
+// The first reason after reason `after`, by its number; after 0, the first of all. Each answer has its ground, and after 0 there is no reason
+// exactly where the group is apart.
+pub fn why(t: &[u32], m: &[u8], group: u32, after: u32) -> Reason
+    ensures { λ r. ⌜ r ≡ x.whyAfter after group (now (t .entry)) (now (m .entry)) ⌝ }
+    ensures { λ r. ⌜ Grounded group (now (t .entry)) (now (m .entry)) r ⌝ }
+    ensures { λ r. ⌜ (after ≡ 0 → r ≡ Reason.NoReason → apartOn group (now (t .entry)) (now (m .entry)) ≡ verdict.Yes) ⌝ }
+    ensures { λ r. ⌜ (after ≡ 0 → apartOn group (now (t .entry)) (now (m .entry)) ≡ verdict.Yes → r ≡ Reason.NoReason) ⌝ }
+{
+    if !tables::sound(t, m.len()) {
+        return Reason::Refused(4);
+    }
+    if !reach::is_group(group, t[CORES]) {
+        return Reason::Refused(13);
+    }
+    judge::judge(t, m, group, after)
+}
+
+// The same as a number, with the rest of it in nine lent words; 100 and the number of a refusal writes nothing.
+pub fn tell(t: &[u32], m: &[u8], group: u32, after: u32, words: &mut [u32]) -> u32
+    ensures { λ r. ⌜ r ≡ x.told after group (now (t .entry)) (now (m .entry)) (now (words .entry)) .number ⌝ }
+    ensures { λ _. ⌜ now (words .exit) ≡ x.told after group (now (t .entry)) (now (m .entry)) (now (words .entry)) .words ⌝ }
+{
+    if !tables::sound(t, m.len()) {
+        return 104;
+    }
+    if words.len() != 9 {
+        return 112;
+    }
+    if !reach::is_group(group, t[CORES]) {
+        return 113;
+    }
+    let r = judge::judge(t, m, group, after);
+    words::put(words, r);
+    judge::number(r)
+}

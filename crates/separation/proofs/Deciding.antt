@@ -252,8 +252,8 @@ module _ (t m : List ℕ) (g : ℕ) where
         = ap (λ (cs : List ℕ). inMemory (reach cs t m) (pagesOf t)) (sym o) ∙ not-false (inMemory (reach (members r (coresOf t)) t m) (pagesOf t)) (sym q ∙ q′) in
         w
         ∙ pages-decide (pagesOf t) S T l k inner outer
-        (λ i h. ap (λ (x : List ℕ). getD x i 0) u ∙ byte-in (members g (coresOf t)) t m inner i h)
-        (λ i h. ap (λ (x : List ℕ). getD x i 0) (v ∙ ap (λ (cs : List ℕ). mapFor cs t m) o) ∙ byte-in (rest g t) t m outer i h)
+        (λ i h. ap (λ (x : List ℕ). getD x i 0) u ∙ byte-in (members g (coresOf t)) t m i h)
+        (λ i h. ap (λ (x : List ℕ). getD x i 0) (v ∙ ap (λ (cs : List ℕ). mapFor cs t m) o) ∙ byte-in (rest g t) t m i h)
 
 -- an array of 4,096 bytes has room for a map
 pub room : (n : ℕ) → n ≤ 4096 → length {A = ℕ} (take n (replicate 4096 0)) ≡ n

@@ -27,7 +27,7 @@ unfolding range
 range-long zero = refl
 range-long (suc n) = length-append (range n) (n ∷ []) ∙ omega (arith, range-long n)
 
-map-long : (f : ℕ → ℕ) (n : ℕ) → length (map f (range n)) ≡ n
+pub map-long : (f : ℕ → ℕ) (n : ℕ) → length (map f (range n)) ≡ n
 map-long f n = length-map (range n) f ∙ range-long n
 
 map-at : (f : ℕ → ℕ) (n p : ℕ) → p < n → getD (map f (range n)) p 0 ≡ f p
@@ -95,11 +95,11 @@ pub reached-low : (n : ℕ) (S : Pages) (p : ℕ) → inMemory S n ≡ true → 
 unfolding inMemory
 reached-low n S p e h = ltb-true _ _ (all-in (λ q. ltb q n) (reached S) p e h)
 
-module _ (cs t m : List ℕ) (e : inMemory (reach cs t m) (pagesOf t) ≡ true) where
-  pub byte-in : (p : ℕ) → p < pagesOf t → getD (mapFor cs t m) p 0 ≡ mapByte (reach cs t m) p
-  unfolding mapFor
-  byte-in p h = map-at (λ (x : ℕ). mapByte (reach cs t m) x) (pagesOf t) p h
+pub byte-in : (cs t m : List ℕ) (p : ℕ) → p < pagesOf t → getD (mapFor cs t m) p 0 ≡ mapByte (reach cs t m) p
+unfolding mapFor
+byte-in cs t m p h = map-at (λ (x : ℕ). mapByte (reach cs t m) x) (pagesOf t) p h
 
+module _ (cs t m : List ℕ) (e : inMemory (reach cs t m) (pagesOf t) ≡ true) where
   byte-out : (p : ℕ) → pagesOf t ≤ p → getD (mapFor cs t m) p 0 ≡ 0
   unfolding mapFor
   byte-out p h = map-out (λ (x : ℕ). mapByte (reach cs t m) x) (pagesOf t) p h
@@ -111,14 +111,14 @@ module _ (cs t m : List ℕ) (e : inMemory (reach cs t m) (pagesOf t) ≡ true) 
     pub table-bit : isSet (getD (mapFor cs t m) p 0) 1 ≡ has p (tablePages (reach cs t m))
     table-bit =
         tested (ltb p (pagesOf t))
-        (λ l. ap (λ (x : ℕ). isSet x 1) (byte-in p (ltb-true _ _ l)) ∙ byte-table (reach cs t m) p)
+        (λ l. ap (λ (x : ℕ). isSet x 1) (byte-in cs t m p (ltb-true _ _ l)) ∙ byte-table (reach cs t m) p)
         (λ l. ap (λ (x : ℕ). isSet x 1) (byte-out p (ltb-false _ _ l))
         ∙ sym (none-beyond p (tablePages (reach cs t m)) (λ q h. in-left q (tablePages (reach cs t m)) _ h) (ltb-false _ _ l)))
 
     pub writable-bit : isSet (getD (mapFor cs t m) p 0) 2 ≡ has p (reach cs t m .writables)
     writable-bit =
         tested (ltb p (pagesOf t))
-        (λ l. ap (λ (x : ℕ). isSet x 2) (byte-in p (ltb-true _ _ l)) ∙ byte-writable (reach cs t m) p)
+        (λ l. ap (λ (x : ℕ). isSet x 2) (byte-in cs t m p (ltb-true _ _ l)) ∙ byte-writable (reach cs t m) p)
         (λ l. ap (λ (x : ℕ). isSet x 2) (byte-out p (ltb-false _ _ l))
         ∙ sym (none-beyond p (reach cs t m .writables) (λ q h. in-right q (tablePages (reach cs t m)) _ (in-right q (reach cs t m .datas) _ h)) (ltb-false _ _ l)))
 
@@ -126,7 +126,7 @@ module _ (cs t m : List ℕ) (e : inMemory (reach cs t m) (pagesOf t) ≡ true) 
   pub shown-is : select (λ p. not (eqb (getD (mapFor cs t m) p 0) 0)) (range (pagesOf t)) ≡ select (λ p. has p (reached (reach cs t m))) (range (pagesOf t))
   shown-is =
       select-same _ _ (range (pagesOf t))
-      (λ p h. ap (λ (x : ℕ). not (eqb x 0)) (byte-in p (range-in (pagesOf t) p h)) ∙ marked-is (reach cs t m) p)
+      (λ p h. ap (λ (x : ℕ). not (eqb x 0)) (byte-in cs t m p (range-in (pagesOf t) p h)) ∙ marked-is (reach cs t m) p)
 
 -- ---- numbers that fail a test do not count
 

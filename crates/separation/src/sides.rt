@@ -36,7 +36,7 @@ pub fn rest(t: &[u32], group: u32) -> u32
 }
 
 // Whether core k is of neither side, or is running in user mode.
-fn passes(t: &[u32], group: u32, k: u32) -> bool
+pub fn passes(t: &[u32], group: u32, k: u32) -> bool
     requires { ⌜ (k < 4) × (32 + 256 * k + 256 ≤ length (now t)) ⌝ }
     ensures { λ r. ⌜ r ≡ y.passes group (now (t .entry)) k ⌝ }
 {

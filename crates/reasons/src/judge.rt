@@ -1,0 +1,217 @@
+// The six reasons, each by itself (specs/Why.antt).
+use super::Found;
+use super::Reason;
+use super::Side;
+use super::roots::find;
+use layout::CORES;
+use layout::MOST_PAGES;
+use layout::PAGES;
+ghost use mathlib.Core.Path.{_≡_};
+ghost use mathlib.Core.Bool.{true, not};
+ghost use Prim.Native.Nat.{_+_, _-_, _*_, _<_, _≤_, _^_};
+ghost use lib.ListN.{length};
+ghost use Rattle.tables.specs.Views.{coresOf, pagesOf};
+ghost use Rattle.tables.specs.Sound.{sound};
+ghost use Rattle.reach.specs.Reach.{members, reach, inMemory, mapFor};
+ghost use Rattle.reasons.specs.Why as x;
+ghost use Rattle.reasons.specs.inner.Search as y;
+
+fn side_number(s: Side) -> u32
+    ensures { λ r. ⌜ (r ≡ x.sideNumber s) × (r < 2) ⌝ }
+{
+    match s {
+        Side::Group => 0,
+        Side::Rest => 1,
+    }
+}
+
+// The number for an answer.
+pub fn number(a: Reason) -> u32
+    requires { ⌜ x.whyNumber a < 2 ^ 32 ⌝ }
+    ensures { λ r. ⌜ r ≡ x.whyNumber a ⌝ }
+{
+    match a {
+        Reason::NoReason => 0,
+        Reason::Refused(n) => 100 + n,
+        Reason::NotUser(_) => 1,
+        Reason::BeyondMemory(s, _) => 2 + side_number(s),
+        Reason::OwnTable(s, _) => 4 + side_number(s),
+        Reason::Touches(_) => 6,
+    }
+}
+
+// The first of the cores below k that is not running in user mode.
+fn modes(t: &[u32], group: u32) -> Reason
+    requires { ⌜ (coresOf (now t) ≤ 4) × (32 + 256 * coresOf (now t) ≤ length (now t)) ⌝ }
+    ensures { λ r. ⌜ r ≡ x.modeReason group (now (t .entry)) ⌝ }
+{
+    let cores = t[CORES];
+    let mut k: u32 = 0;
+    while k < cores {
+        if !separation::sides::passes(t, group, k) {
+            return Reason::NotUser(k);
+        }
+        k += 1;
+    }
+    Reason::NoReason
+}
+
+// The way to the lowest page beyond memory, where there is one.
+fn beyond(t: &[u32], m: &[u8], map: &[u8], group: u32, strays: bool) -> Found
+    requires { ⌜ sound (now t) (length (now m)) ≡ true ⌝ }
+    requires { ⌜ length (now map) ≡ pagesOf (now t) ⌝ }
+    requires { ⌜ strays ≡ not (inMemory (reach (members group (coresOf (now t))) (now t) (now m)) (pagesOf (now t))) ⌝ }
+    ensures { λ r. ⌜ r ≡ y.beyondFound (members group (coresOf (now (t .entry)))) (now (t .entry)) (now (m .entry)) ⌝ }
+{
+    if strays {
+        return find(t, m, 0, map, group);
+    }
+    Found::Nothing
+}
+
+// The way to the lowest page that a side can write and uses as a table.
+fn own_table(t: &[u32], m: &[u8], map: &[u8], group: u32) -> Found
+    requires { ⌜ sound (now t) (length (now m)) ≡ true ⌝ }
+    requires { ⌜ now map ≡ mapFor (members group (coresOf (now t))) (now t) (now m) ⌝ }
+    ensures { λ r. ⌜ r ≡ y.tableFound (members group (coresOf (now (t .entry)))) (now (t .entry)) (now (m .entry)) ⌝ }
+{
+    find(t, m, 1, map, group)
+}
+
+// The way of others to the lowest page of the map that they can write or use as a table.
+fn touched(t: &[u32], m: &[u8], map: &[u8], group: u32, others: u32) -> Found
+    requires { ⌜ sound (now t) (length (now m)) ≡ true ⌝ }
+    requires { ⌜ now map ≡ mapFor (members group (coresOf (now t))) (now t) (now m) ⌝ }
+    ensures { λ r. ⌜ r ≡ y.touchFound (members group (coresOf (now (t .entry)))) (members others (coresOf (now (t .entry)))) (now (t .entry)) (now (m .entry)) ⌝ }
+{
+    find(t, m, 2, map, others)
+}
+
+// A way as reason n.
+fn as_reason(n: u32, found: Found) -> Reason
+    ensures { λ r. ⌜ r ≡ x.byWay (y.asReason n) found ⌝ }
+{
+    match found {
+        Found::Nothing => Reason::NoReason,
+        Found::Lowest(way) => {
+            if n == 2 {
+                return Reason::BeyondMemory(Side::Group, way);
+            }
+            if n == 3 {
+                return Reason::BeyondMemory(Side::Rest, way);
+            }
+            if n == 4 {
+                return Reason::OwnTable(Side::Group, way);
+            }
+            if n == 5 {
+                return Reason::OwnTable(Side::Rest, way);
+            }
+            Reason::Touches(way)
+        }
+    }
+}
+
+// Reason n, by the maps of both sides and whether each reaches beyond memory.
+fn reason_at(
+    t: &[u32],
+    m: &[u8],
+    group: u32,
+    others: u32,
+    own: &[u8],
+    other: &[u8],
+    strays: bool,
+    astray: bool,
+    n: u32,
+) -> Reason
+    requires { ⌜ sound (now t) (length (now m)) ≡ true ⌝ }
+    requires { ⌜ y.Sides group others (now t) (now m) (now own) (now other) strays astray ⌝ }
+    ensures { λ r. ⌜ r ≡ x.reasonAt group (now (t .entry)) (now (m .entry)) n ⌝ }
+{
+    if n == 1 {
+        return modes(t, group);
+    }
+    if n == 2 {
+        return as_reason(2, beyond(t, m, own, group, strays));
+    }
+    if n == 3 {
+        return as_reason(3, beyond(t, m, other, others, astray));
+    }
+    if n == 4 {
+        return as_reason(4, own_table(t, m, own, group));
+    }
+    if n == 5 {
+        return as_reason(5, own_table(t, m, other, others));
+    }
+    as_reason(6, touched(t, m, own, group, others))
+}
+
+// Whether an answer is no reason.
+fn is_none(a: Reason) -> bool
+    ensures { λ r. ⌜ r ≡ y.isNone a ⌝ }
+{
+    match a {
+        Reason::NoReason => true,
+        Reason::Refused(_) => false,
+        Reason::NotUser(_) => false,
+        Reason::BeyondMemory(_, _) => false,
+        Reason::OwnTable(_, _) => false,
+        Reason::Touches(_) => false,
+    }
+}
+
+// The first reason after reason `after`.
+fn first_after(
+    t: &[u32],
+    m: &[u8],
+    group: u32,
+    others: u32,
+    own: &[u8],
+    other: &[u8],
+    strays: bool,
+    astray: bool,
+    after: u32,
+) -> Reason
+    requires { ⌜ sound (now t) (length (now m)) ≡ true ⌝ }
+    requires { ⌜ y.Sides group others (now t) (now m) (now own) (now other) strays astray ⌝ }
+    ensures { λ r. ⌜ r ≡ x.firstAfter group (now (t .entry)) (now (m .entry)) (6 - after) after ⌝ }
+{
+    let mut n = after;
+    while n < 6 {
+        let r = reason_at(t, m, group, others, own, other, strays, astray, n + 1);
+        if !is_none(r) {
+            return r;
+        }
+        n += 1;
+    }
+    Reason::NoReason
+}
+
+// The same with the maps filled here.
+fn with_maps(
+    t: &[u32],
+    m: &[u8],
+    group: u32,
+    after: u32,
+    own: &mut [u8],
+    other: &mut [u8],
+) -> Reason
+    requires { ⌜ sound (now t) (length (now m)) ≡ true ⌝ }
+    requires { ⌜ (length (now own) ≡ pagesOf (now t)) × (length (now other) ≡ pagesOf (now t)) ⌝ }
+    ensures { λ r. ⌜ r ≡ x.firstAfter group (now (t .entry)) (now (m .entry)) (6 - after) after ⌝ }
+{
+    let others = separation::sides::rest(t, group);
+    let strays = reach::fill(t, m, group, own);
+    let astray = reach::fill(t, m, others, other);
+    first_after(t, m, group, others, own, other, strays, astray, after)
+}
+
+// The same with two maps of its own.
+pub(crate) fn judge(t: &[u32], m: &[u8], group: u32, after: u32) -> Reason
+    requires { ⌜ sound (now t) (length (now m)) ≡ true ⌝ }
+    ensures { λ r. ⌜ r ≡ x.firstAfter group (now (t .entry)) (now (m .entry)) (6 - after) after ⌝ }
+{
+    let pages = t[PAGES] as usize;
+    let mut own = [0u8; MOST_PAGES];
+    let mut other = [0u8; MOST_PAGES];
+    with_maps(t, m, group, after, &mut own[..pages], &mut other[..pages])
+}

@@ -1,0 +1,279 @@
+// The way to the lowest page that is looked for, through the entries of tables (specs/inner/Search.antt).
+// A second-level table is gone through once, however many ways lead to it.
+use super::Found;
+use super::Named;
+use super::Way;
+ghost use mathlib.Core.Path.{_≡_};
+ghost use mathlib.Core.List.{[], _∷_, flatMap};
+ghost use mathlib.Core.List as lists;
+ghost use Prim.Native.Nat.{_+_, _-_, _*_, _%_, _^_, _<_, _≤_};
+ghost use lib.ListN.{length};
+ghost use Rattle.tlb.specs.declared.Entry.{Entry};
+ghost use Rattle.tlb.specs.Walks.{pteR, pteBa};
+ghost use Rattle.reach.specs.Reach.{grantsWrite};
+ghost use Rattle.reasons.specs.Ways as w;
+ghost use Rattle.reasons.specs.Why as x;
+ghost use Rattle.reasons.specs.inner.Search as y;
+
+// Whether a page is looked for, by what names it.
+fn is_wanted(kind: u32, pages: u32, map: &[u8], names: Named) -> bool
+    requires { ⌜ length (now map) ≡ pages ⌝ }
+    ensures { λ r. ⌜ r ≡ y.wanted kind pages (now (map .entry)) names ⌝ }
+{
+    let page = names.page;
+    if kind == 0 {
+        return pages <= page;
+    }
+    if page < pages {
+        let at = page as usize;
+        let b = map[at];
+        if kind == 1 {
+            return (names.level == 0) & names.write & (b / 2 % 2 == 1);
+        }
+        return ((names.level != 0) | names.write) & (b != 0);
+    }
+    false
+}
+
+// A way where it is lower than the best so far.
+fn lower(best: Found, way: Way) -> Found
+    ensures { λ r. ⌜ r ≡ x.lower best (Found.Lowest way) ⌝ }
+{
+    match best {
+        Found::Nothing => Found::Lowest(way),
+        Found::Lowest(v) => {
+            if way.names.page < v.names.page {
+                return Found::Lowest(way);
+            }
+            best
+        }
+    }
+}
+
+// The same where it is looked for.
+fn take(kind: u32, pages: u32, map: &[u8], way: Way, best: Found) -> Found
+    requires { ⌜ length (now map) ≡ pages ⌝ }
+    ensures { λ r. ⌜ r ≡ x.lower best (y.sought (y.wanted kind pages (now (map .entry))) (way ∷ [])) ⌝ }
+{
+    if is_wanted(kind, pages, map, way.names) {
+        return lower(best, way);
+    }
+    best
+}
+
+// What a present entry names, of a table of this level.
+fn named(level: u32, e: u32) -> Named
+    requires { ⌜ 1 ≤ level ⌝ }
+    ensures { λ r. ⌜ r ≡ w.naming (level - 1) (pteBa e) (grantsWrite (pteR e)) ⌝ }
+{
+    Named {
+        level: level - 1,
+        page: e / 0x1000,
+        write: e / 0x100 % 2 == 1,
+    }
+}
+
+// A way that goes on by an entry.
+fn further(way: Way, i: u32, names: Named) -> Way
+    requires { ⌜ (way .entries < 2) × (i < 1024) ⌝ }
+    ensures { λ r. ⌜ r ≡ w.further way i names ⌝ }
+{
+    let root = way.root;
+    let at = way.names.page % 0x100000 * 0x1000 + 4 * i;
+    if way.entries == 0 {
+        return Way {
+            core: way.core,
+            root,
+            entries: 1,
+            first: at,
+            second: 0,
+            names,
+        };
+    }
+    Way {
+        core: way.core,
+        root,
+        entries: way.entries + 1,
+        first: way.first,
+        second: at,
+        names,
+    }
+}
+
+// The way that goes on by entry i, whose word is e.
+fn take_entry(kind: u32, pages: u32, map: &[u8], way: Way, i: u32, e: u32, best: Found) -> Found
+    requires { ⌜ (length (now map) ≡ pages) × (way .entries < 2) × (1 ≤ way .names .level) × (i < 1024) ⌝ }
+    ensures { λ r. ⌜ r ≡ x.lower best (y.sought (y.wanted kind pages (now (map .entry))) (lists.map (w.further way i) (w.entryName (way .names) (Entry.Word e)))) ⌝ }
+{
+    if tlb::present(e) {
+        let names = named(way.names.level, e);
+        if is_wanted(kind, pages, map, names) {
+            return lower(best, further(way, i, names));
+        }
+    }
+    best
+}
+
+// The ways that go on by one entry of a table.
+fn scan(m: &[u8], kind: u32, pages: u32, map: &[u8], way: Way, best: Found) -> Found
+    requires { ⌜ (length (now m) ≡ 4096 * pages) × (pages ≤ 4096) × (length (now map) ≡ pages) ⌝ }
+    requires { ⌜ (way .names .page % 2 ^ 20 < pages) × (way .entries < 2) × (1 ≤ way .names .level) ⌝ }
+    ensures { λ r. ⌜ r ≡ x.lower best (y.sought (y.wanted kind pages (now (map .entry))) (w.nextWays (now (m .entry)) way)) ⌝ }
+{
+    let start = 4096 * ((way.names.page % 0x100000) as usize);
+    let mut found = best;
+    let mut i: u32 = 0;
+    while i < 1024 {
+        let e = word::read_word(m, start + 4 * (i as usize));
+        found = take_entry(kind, pages, map, way, i, e, found);
+        i += 1;
+    }
+    found
+}
+
+// The same for a second-level table, unless it was gone through before.
+fn scan_once(
+    m: &[u8],
+    kind: u32,
+    pages: u32,
+    map: &[u8],
+    way: Way,
+    best: Found,
+    seen: &mut [u8],
+) -> Found
+    requires { ⌜ (length (now m) ≡ 4096 * pages) × (pages ≤ 4096) × (length (now map) ≡ pages) × (length (now seen) ≡ 4096) ⌝ }
+    requires { ⌜ (way .entries < 2) × (way .names .level ≡ 1) ⌝ }
+    requires { ⌜ y.Known (y.wanted kind pages (now map)) (now m) (now seen) best ⌝ }
+    ensures { λ r. ⌜ y.Searched (y.wanted kind pages (now (map .entry))) (now (m .entry)) best (now (seen .entry)) r (now (seen .exit)) (w.nextWays (now (m .entry)) way) ⌝ }
+{
+    let page = way.names.page % 0x100000;
+    if page < pages {
+        let at = page as usize;
+        if seen[at] == 1 {
+            return best;
+        }
+        seen[at] = 1;
+        return scan(m, kind, pages, map, way, best);
+    }
+    best
+}
+
+// A way to a second-level table, and those that go on from it.
+fn from_second(
+    m: &[u8],
+    kind: u32,
+    pages: u32,
+    map: &[u8],
+    way: Way,
+    best: Found,
+    seen: &mut [u8],
+) -> Found
+    requires { ⌜ (length (now m) ≡ 4096 * pages) × (pages ≤ 4096) × (length (now map) ≡ pages) × (length (now seen) ≡ 4096) ⌝ }
+    requires { ⌜ (way .entries < 2) × (way .names .level ≡ 1) ⌝ }
+    requires { ⌜ y.Known (y.wanted kind pages (now map)) (now m) (now seen) best ⌝ }
+    ensures { λ r. ⌜ y.Searched (y.wanted kind pages (now (map .entry))) (now (m .entry)) best (now (seen .entry)) r (now (seen .exit)) (w.onward (now (m .entry)) 1 way) ⌝ }
+{
+    let found = take(kind, pages, map, way, best);
+    scan_once(m, kind, pages, map, way, found, seen)
+}
+
+// The ways that go on by entry i of a first-level table, whose word is e.
+fn from_entry(
+    m: &[u8],
+    kind: u32,
+    pages: u32,
+    map: &[u8],
+    way: Way,
+    i: u32,
+    e: u32,
+    best: Found,
+    seen: &mut [u8],
+) -> Found
+    requires { ⌜ (length (now m) ≡ 4096 * pages) × (pages ≤ 4096) × (length (now map) ≡ pages) × (length (now seen) ≡ 4096) ⌝ }
+    requires { ⌜ (way .entries ≡ 0) × (way .names .level ≡ 2) × (i < 1024) ⌝ }
+    requires { ⌜ y.Known (y.wanted kind pages (now map)) (now m) (now seen) best ⌝ }
+    ensures { λ r. ⌜ y.Searched (y.wanted kind pages (now (map .entry))) (now (m .entry)) best (now (seen .entry)) r (now (seen .exit)) (y.throughEntry (now (m .entry)) way i (Entry.Word e)) ⌝ }
+{
+    if tlb::present(e) {
+        let names = named(way.names.level, e);
+        let on = further(way, i, names);
+        return from_second(m, kind, pages, map, on, best, seen);
+    }
+    best
+}
+
+// The ways that go on from a first-level table.
+fn from_entries(
+    m: &[u8],
+    kind: u32,
+    pages: u32,
+    map: &[u8],
+    way: Way,
+    best: Found,
+    seen: &mut [u8],
+) -> Found
+    requires { ⌜ (length (now m) ≡ 4096 * pages) × (pages ≤ 4096) × (length (now map) ≡ pages) × (length (now seen) ≡ 4096) ⌝ }
+    requires { ⌜ (way .names .page % 2 ^ 20 < pages) × (way .entries ≡ 0) × (way .names .level ≡ 2) ⌝ }
+    requires { ⌜ y.Known (y.wanted kind pages (now map)) (now m) (now seen) best ⌝ }
+    ensures { λ r. ⌜ y.Searched (y.wanted kind pages (now (map .entry))) (now (m .entry)) best (now (seen .entry)) r (now (seen .exit)) (flatMap (w.onward (now (m .entry)) 1) (w.nextWays (now (m .entry)) way)) ⌝ }
+{
+    let start = 4096 * ((way.names.page % 0x100000) as usize);
+    let mut found = best;
+    let mut i: u32 = 0;
+    while i < 1024 {
+        let e = word::read_word(m, start + 4 * (i as usize));
+        found = from_entry(m, kind, pages, map, way, i, e, found, seen);
+        i += 1;
+    }
+    found
+}
+
+// A way to a first-level table, and those that go on from it.
+fn from_first(
+    m: &[u8],
+    kind: u32,
+    pages: u32,
+    map: &[u8],
+    way: Way,
+    best: Found,
+    seen: &mut [u8],
+) -> Found
+    requires { ⌜ (length (now m) ≡ 4096 * pages) × (pages ≤ 4096) × (length (now map) ≡ pages) × (length (now seen) ≡ 4096) ⌝ }
+    requires { ⌜ (way .entries ≡ 0) × (way .names .level ≡ 2) ⌝ }
+    requires { ⌜ y.Known (y.wanted kind pages (now map)) (now m) (now seen) best ⌝ }
+    ensures { λ r. ⌜ y.Searched (y.wanted kind pages (now (map .entry))) (now (m .entry)) best (now (seen .entry)) r (now (seen .exit)) (w.onward (now (m .entry)) 2 way) ⌝ }
+{
+    let found = take(kind, pages, map, way, best);
+    if way.names.page % 0x100000 < pages {
+        return from_entries(m, kind, pages, map, way, found, seen);
+    }
+    found
+}
+
+// A way that ends where it begins, and all that go on from it.
+pub(crate) fn from_root(
+    m: &[u8],
+    kind: u32,
+    pages: u32,
+    map: &[u8],
+    way: Way,
+    best: Found,
+    seen: &mut [u8],
+) -> Found
+    requires { ⌜ (length (now m) ≡ 4096 * pages) × (pages ≤ 4096) × (length (now map) ≡ pages) × (length (now seen) ≡ 4096) ⌝ }
+    requires { ⌜ way .entries ≡ 0 ⌝ }
+    requires { ⌜ y.Known (y.wanted kind pages (now map)) (now m) (now seen) best ⌝ }
+    ensures { λ r. ⌜ y.Searched (y.wanted kind pages (now (map .entry))) (now (m .entry)) best (now (seen .entry)) r (now (seen .exit)) (w.allFrom (now (m .entry)) way) ⌝ }
+{
+    let level = way.names.level;
+    if level == 0 {
+        return take(kind, pages, map, way, best);
+    }
+    if level == 1 {
+        return from_second(m, kind, pages, map, way, best, seen);
+    }
+    if level == 2 {
+        return from_first(m, kind, pages, map, way, best, seen);
+    }
+    best
+}
