@@ -1,6 +1,6 @@
 /*
  * The MIPS-86 machine with one to four cores: make a machine, take one step, run a schedule; which pages a group of
- * cores reaches, and whether the group is kept apart from the others.
+ * cores reaches, whether the group is kept apart from the others, and why it is not.
  *
  * The caller lends the machine's tables (32-bit words) and its memory (bytes). All of the machine is in them: nothing
  * is kept between calls, nothing is allocated, and a copy of both is a copy of the machine.
@@ -48,7 +48,7 @@ extern "C" {
 /*
  * What is asked of every call. Each pointer is not null, is aligned for its type, and points to as many words or bytes
  * as the length after it says (with the length 0 it is still not null). What a call may write (all that is not const:
- * tables, memory, the map, the words at `accepted` and `beyond`) overlaps nothing else that the call is given. Until it
+ * tables, memory, the map, the words at `accepted`, `beyond` and `words`) overlaps nothing else that the call is given. Until it
  * returns no other thread writes what a call was lent, or reads what it may write. Calls on different machines may run
  * at the same time. There is no other condition: any words and bytes may be handed over.
  */
@@ -67,7 +67,8 @@ extern "C" {
  *   10 no free record                              (step, run)
  *   11 schedule not of whole steps, or over 1,024  (run)
  *   12 the map's length is not the page count      (reach)
- *   13 group empty, or names a core not there      (reach, apart)
+ *      or the length of the words is not nine      (why)
+ *   13 group empty, or names a core not there      (reach, apart, why)
  * Where several apply, the first of them is given; of run's, 4 and 11 come before those of a step.
  */
 #define MIPS86_DONE 0u      /* made; the step is done; the end of the schedule; the map is filled */
@@ -134,6 +135,39 @@ uint32_t mips86_reach(const uint32_t *tables, size_t ntables, const uint8_t *mem
  * neither writable nor table for either side keeps its bytes, and a table page keeps them but for accessed bits.
  */
 uint32_t mips86_apart(const uint32_t *tables, size_t ntables, const uint8_t *memory, size_t nmemory, uint32_t group);
+
+/*
+ * Why is the group not apart? The conditions of apart come in their order, as reasons 1 to 6. Asks for the first reason
+ * that holds and has a number above `after`: with 0 for the first of all, with an answer for the one after it.
+ * Answers 0 where there is none, the reason's number, or a refusal (4, 12, 13). With `after` 0 the answer is 0 exactly
+ * where apart answers yes. Writes the nine words, which a refusal leaves. Uses some 70 KB of stack.
+ *
+ * A reason names the lowest page at fault and one way to it: it begins at the core's pto, at a walk or at a pending
+ * store, and goes on through up to two present entries. That each way is real, followed entry by entry to the page and
+ * with the right that spoils the verdict, is proved. Words that a reason does not have are zero.
+ */
+#define MIPS86_WHY_WORDS 9
+
+#define MIPS86_NO_REASON 0u
+#define MIPS86_NOT_USER 1u     /* a core of the group, or another running core, is not running in user mode */
+#define MIPS86_GROUP_BEYOND 2u /* the group reaches a page beyond memory */
+#define MIPS86_REST_BEYOND 3u  /* the rest does */
+#define MIPS86_GROUP_TABLE 4u  /* the group can write a page that it uses as a table */
+#define MIPS86_REST_TABLE 5u   /* the rest can */
+#define MIPS86_TOUCHES 6u      /* the rest can write, or uses as a table, a page that the group reaches */
+
+#define MIPS86_WHY_CORE 0   /* the core that is not in user mode, or that the way begins at */
+#define MIPS86_WHY_PAGE 1   /* the page at fault */
+#define MIPS86_WHY_LEVEL 2  /* what it is at the end of the way: 2 first-level table, 1 second-level table, 0 data */
+#define MIPS86_WHY_WRITE 3  /* 1 where the way grants write */
+#define MIPS86_WHY_ROOT 4   /* where the way begins: 0 the page in pto, 1 a walk, 2 a pending store */
+#define MIPS86_WHY_RECORD 5 /* the record of that walk or store, 1 to 31 */
+#define MIPS86_WHY_ENTRIES 6 /* how many entries the way goes through, 0 to 2 */
+#define MIPS86_WHY_FIRST 7  /* their addresses; entry i of a table is at i * 4 in its page, so that a way from pto */
+#define MIPS86_WHY_SECOND 8 /* through both is that of virtual page (first / 4 % 1024) * 1024 + second / 4 % 1024 */
+
+uint32_t mips86_why(const uint32_t *tables, size_t ntables, const uint8_t *memory, size_t nmemory, uint32_t group,
+                    uint32_t after, uint32_t *words, size_t nwords);
 
 #ifdef __cplusplus
 }

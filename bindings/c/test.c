@@ -412,6 +412,67 @@ static void make_sides(void) {
     store(3, 0xFFFFF000);
 }
 
+/* the reason after a number, of cores 0 and 1, and its words; neither tables nor memory are written */
+static void tells(int line, uint32_t after, uint32_t number, const uint32_t *reason) {
+    uint32_t told[10];
+    memset(told, 0xEE, sizeof told);
+    remember();
+    check_at(line, "why", mips86_why(tables, words, memory, length, 3, after, told, 9), number);
+    for (int k = 0; k < 9; k++) check_at(line, "a word of the reason", told[k], reason[k]);
+    check_at(line, "the word after the reason", told[9], 0xEEEEEEEE);
+    check_at(line, "SAME()", SAME(), 1);
+}
+#define TELLS(after, number, ...) tells(__LINE__, after, number, (const uint32_t[9]){__VA_ARGS__})
+
+static void tells_refusal(int line, uint32_t group, size_t nwords, uint32_t number) {
+    uint32_t told[10];
+    memset(told, 0xEE, sizeof told);
+    check_at(line, "why", mips86_why(tables, words, memory, length, group, 0, told, nwords), MIPS86_REFUSED + number);
+    for (int k = 0; k < 10; k++) check_at(line, "a word of no reason", told[k], 0xEEEEEEEE);
+}
+
+static void test_why(void) {
+    make_sides();
+    TELLS(0, MIPS86_NO_REASON, 0);
+    tells_refusal(__LINE__, 3, 8, 12);
+    tells_refusal(__LINE__, 3, 10, 12);
+    tells_refusal(__LINE__, 0, 8, 12);
+    tells_refusal(__LINE__, 0, 9, 13);
+    tells_refusal(__LINE__, 16, 9, 13);
+    tables[BLOCK + 4] = 77; /* a general register says nothing */
+    TELLS(0, MIPS86_NO_REASON, 0);
+    tables[BLOCK + RUNNING] = 2;
+    tells_refusal(__LINE__, 0, 8, 4);
+
+    /* one of each, in their order; the lowest page, and of its ways the first */
+    make_sides();
+    tables[BLOCK + 2 * 256 + MODE] = 0;
+    entry(2, 9, 20, USER, 1);
+    entry(2, 8, 17, USER, 1);
+    entry(2, 7, 20, USER, 1);
+    walk(2, 2, 0, 16);
+    entry(2, 6, 2, WRITE, 1);
+    store(2, 0x5000);
+    entry(6, 5, 4, WRITE, 1);
+    entry(6, 4, 4, WRITE, 1);
+    TELLS(0, MIPS86_NOT_USER, 2);
+    TELLS(1, MIPS86_GROUP_BEYOND, 0, 17, 0, 0, 0, 0, 2, 0x1000, 0x2020);
+    TELLS(2, MIPS86_REST_BEYOND, 2, 16, 2, 0, 1, 5);
+    TELLS(3, MIPS86_GROUP_TABLE, 0, 2, 0, 1, 0, 0, 2, 0x1000, 0x2018);
+    TELLS(4, MIPS86_REST_TABLE, 2, 5, 0, 1, 2, 6);
+    TELLS(5, MIPS86_TOUCHES, 2, 4, 0, 1, 0, 0, 2, 0x5000, 0x6010);
+    TELLS(6, MIPS86_NO_REASON, 0);
+    TELLS(0xFFFFFFFF, MIPS86_NO_REASON, 0);
+
+    /* a walk of the rest that has not come to its end uses a page of the group as a table */
+    make_sides();
+    walk(2, 1, 0, 3);
+    TELLS(0, MIPS86_TOUCHES, 2, 3, 1, 0, 1, 5);
+    make_sides();
+    entry(5, 7, 4, 0, 1);
+    TELLS(0, MIPS86_TOUCHES, 2, 4, 1, 0, 0, 0, 1, 0x501C);
+}
+
 /* the verdict for cores 0 and 1 on the sides with one thing changed, and the same sides again */
 static void says(int line, uint32_t verdict) {
     remember();
@@ -507,6 +568,7 @@ int main(void) {
     test_group_refusals();
     test_reach();
     test_apart();
+    test_why();
     printf("C test: %u checks, %u failed\n", checks, failures);
     return failures != 0;
 }

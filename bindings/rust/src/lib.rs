@@ -1,5 +1,5 @@
 //! The MIPS-86 machine with one to four cores, for Rust: make a machine, take one step, run a schedule; which pages a
-//! group of cores reaches, and whether the group is kept apart from the others.
+//! group of cores reaches, whether the group is kept apart from the others, and why it is not.
 //!
 //! [`Machine`] owns a machine's tables and memory; the functions are for a caller who lends them. All of the machine is
 //! in the two: nothing is kept between calls. Every call is safe with any words and bytes, since the functions ask
@@ -7,8 +7,10 @@
 //! (crates/mips86); `../../include/mips86.h` has the layout, the kinds of step and the refusals in short.
 
 mod machine;
+mod why;
 
 pub use machine::{LoadError, Machine, Reach};
+pub use why::{reasons, why, Reason, Root, Side, Way};
 
 /// Bytes of a page of memory.
 pub const PAGE_BYTES: usize = 4096;
@@ -91,6 +93,16 @@ mod c {
             beyond: *mut u32,
         ) -> u32;
         pub fn mips86_apart(tables: *const u32, ntables: usize, memory: *const u8, nmemory: usize, group: u32) -> u32;
+        pub fn mips86_why(
+            tables: *const u32,
+            ntables: usize,
+            memory: *const u8,
+            nmemory: usize,
+            group: u32,
+            after: u32,
+            words: *mut u32,
+            nwords: usize,
+        ) -> u32;
     }
 }
 

@@ -1,6 +1,6 @@
 //! A machine that owns its tables and its memory.
 
-use crate::{apart, make, reach, run, step, table_words, Answer, Ran, PAGE_BYTES, STEP_WORDS};
+use crate::{apart, make, reach, reasons, run, step, table_words, why, Answer, Ran, Reason, PAGE_BYTES, STEP_WORDS};
 use std::fmt;
 
 /// A machine: its table words and its memory bytes, which are all of it.
@@ -109,6 +109,24 @@ impl Machine {
     /// ```
     pub fn apart(&self, group: u32) -> Result<bool, u32> {
         apart(&self.tables, &self.memory, group)
+    }
+
+    /// Why the group is not apart: the first reason, none exactly where `apart` says yes.
+    ///
+    /// ```
+    /// use mips86::{Machine, Reason};
+    ///
+    /// let m = Machine::make(1, 1)?;
+    /// assert_eq!(m.why(0b1)?, Some(Reason::NotUser(0)));
+    /// # Ok::<(), u32>(())
+    /// ```
+    pub fn why(&self, group: u32) -> Result<Option<Reason>, u32> {
+        why(&self.tables, &self.memory, group)
+    }
+
+    /// All reasons, at most one for each condition and side, in their order.
+    pub fn reasons(&self, group: u32) -> Result<Vec<Reason>, u32> {
+        reasons(&self.tables, &self.memory, group)
     }
 
     /// The machine as bytes: its table words, low byte first, then its memory.

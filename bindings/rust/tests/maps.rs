@@ -1,6 +1,6 @@
 //! The bundled maps and their verdicts, and machines as bytes.
 
-use mips86::{LoadError, Machine, DATA, TABLE, WRITABLE};
+use mips86::{LoadError, Machine, Reason, Root, Side, Way, DATA, TABLE, WRITABLE};
 
 fn bundled(name: &str) -> Machine {
     let path = format!("{}/../../examples/maps/{name}.bin", env!("CARGO_MANIFEST_DIR"));
@@ -17,10 +17,19 @@ fn verdicts(m: &Machine) -> Vec<bool> {
     (1..16).map(|group| m.apart(group).unwrap()).collect()
 }
 
+/// A way of a core from pto to a data page, by the addresses of its entries.
+fn way(core: u32, entries: [u32; 2], page: u32) -> Way {
+    Way { core, root: Root::Origin, entries: entries.to_vec(), page, level: 0, write: true }
+}
+
 #[test]
 fn the_feeder_keeps_all_apart() {
     let m = bundled("feeder");
     assert_eq!(verdicts(&m), [true; 15]);
+    for group in 1..16 {
+        assert_eq!(m.why(group), Ok(None));
+        assert_eq!(m.reasons(group), Ok(vec![]));
+    }
     let own = m.reach(0b0010).unwrap();
     assert!(!own.beyond);
     let mut map = vec![0; 64];
@@ -40,12 +49,21 @@ fn a_competitors_page() {
     let m = bundled("competitor");
     let expected: Vec<bool> = (1..16).map(|group| group & 0b0110 != 0b0100).collect();
     assert_eq!(verdicts(&m), expected);
+    let north = way(1, [0x6004, 0x7400], 25);
+    assert_eq!(north.virtual_page(), Some(0x00500));
+    assert_eq!(m.why(0b0100), Ok(Some(Reason::Touches(north.clone()))));
+    assert_eq!(m.reasons(0b1101), Ok(vec![Reason::Touches(north)]));
 }
 
 /// A side whose own table it can write spoils every verdict, on whichever side it is.
 #[test]
 fn a_table_of_its_own() {
-    assert_eq!(verdicts(&bundled("own_table")), [false; 15]);
+    let m = bundled("own_table");
+    assert_eq!(verdicts(&m), [false; 15]);
+    let skagen = way(3, [0xa004, 0xb404], 11);
+    assert_eq!(m.reasons(0b0001), Ok(vec![Reason::OwnTable(Side::Rest, skagen.clone())]));
+    assert_eq!(m.reasons(0b1001), Ok(vec![Reason::OwnTable(Side::Group, skagen)]));
+    assert_eq!((m.why(0), m.why(16)), (Err(13), Err(13)));
 }
 
 #[test]

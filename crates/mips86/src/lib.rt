@@ -1,5 +1,5 @@
-// The interface for C and Rust (include/mips86.h): make, step, run, reach and apart on lent tables and memory. A slice is a pointer and
-// a length in C, and each operation answers one number; run and reach write one more word.
+// The interface for C and Rust (include/mips86.h): make, step, run, reach, apart and why on lent tables and memory. A slice is a pointer and
+// a length in C, and each operation answers one number; run and reach write one more word, why nine.
 use machine::run::Stop;
 use reach::Reached;
 use separation::Verdict;
@@ -15,6 +15,7 @@ ghost use Rattle.machine.specs.Run as many;
 ghost use Rattle.reach.specs.Reach.{reachOn, reachedNumber, beyondOf};
 ghost use Rattle.separation.specs.Apart.{apartOn, verdictNumber};
 ghost use Rattle.separation.specs.Separation.{machineOf, Promised};
+ghost use Rattle.reasons.specs.Why.{told};
 ghost use Rattle.mips86.specs.Numbers.{madeNumber, refusalOr0};
 
 fn made_number(a: Made) -> u32
@@ -146,4 +147,19 @@ pub extern "C" fn mips86_apart(tables: &[u32], memory: &[u8], group: u32) -> u32
     ensures { λ r. ⌜ (r ≡ 1 → Promised group (machineOf (now (tables .entry)) (now (memory .entry)))) ⌝ }
 {
     verdict_number(separation::apart(tables, memory, group))
+}
+
+// Why a group is not apart: 0 no reason after reason `after`, 1 to 6 the first one, with the rest of it in nine words, 100 and the number of a refusal.
+#[no_mangle]
+pub extern "C" fn mips86_why(
+    tables: &[u32],
+    memory: &[u8],
+    group: u32,
+    after: u32,
+    words: &mut [u32],
+) -> u32
+    ensures { λ r. ⌜ r ≡ told after group (now (tables .entry)) (now (memory .entry)) (now (words .entry)) .number ⌝ }
+    ensures { λ _. ⌜ now (words .exit) ≡ told after group (now (tables .entry)) (now (memory .entry)) (now (words .entry)) .words ⌝ }
+{
+    reasons::tell(tables, memory, group, after, words)
 }
