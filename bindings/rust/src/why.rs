@@ -109,7 +109,7 @@ fn after(tables: &[u32], memory: &[u8], group: u32, number: u32) -> Result<Optio
 }
 
 /// Why the group is not apart: the first reason in the order of the conditions, none exactly where
-/// [`apart`](crate::apart()) says yes. The error is the number of the refusal, 4 or 13. It uses some 70 KB of stack.
+/// [`apart`](crate::apart()) says yes. The error is the number of the refusal, 4 or 13. It uses some 42 KB of stack.
 pub fn why(tables: &[u32], memory: &[u8], group: u32) -> Result<Option<Reason>, u32> {
     Ok(after(tables, memory, group, 0)?.map(|(_, reason)| reason))
 }

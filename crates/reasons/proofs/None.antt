@@ -238,13 +238,13 @@ module _ (cs t m : List ℕ) (r : ℕ → Bool) where
       go false b = refl
 
   -- what a side writes; what it writes or uses as a table
-  grants-all : all (none grants) (ways cs t m) ≡ all free (reach cs t m .writables)
+  pub grants-all : all (none grants) (ways cs t m) ≡ all free (reach cs t m .writables)
   grants-all =
       all-ways (none grants) m cs t
       ∙ ap₂ _&&_ (all-where (AtLevel 2) (none grants) (λ w. true) (firstWays cs t) (λ w e. rw e refl) (first-level cs t m r) ∙ all-true (firstWays cs t))
       (ap₂ _&&_ (all-where (AtLevel 1) (none grants) (λ w. true) (secondWays cs t m) (λ w e. rw e refl) (second-level cs t m r) ∙ all-true (secondWays cs t m)) writing)
 
-  spoils-all : all (none spoils) (ways cs t m) ≡ all free (reach cs t m .writables ++ tablePages (reach cs t m))
+  pub spoils-all : all (none spoils) (ways cs t m) ≡ all free (reach cs t m .writables ++ tablePages (reach cs t m))
   spoils-all =
       all-ways (none spoils) m cs t
       ∙ ap₂ _&&_ (all-where (AtLevel 2) (none spoils) (λ w. free (page w)) (firstWays cs t) (λ w e. rw e refl) (first-level cs t m r) ∙ firsts-all cs t m free)

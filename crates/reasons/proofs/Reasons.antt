@@ -1,25 +1,29 @@
 -- The reasons that the code gives are those of specs/Why.antt.
 -- Assumes nothing.
-use mathlib.Core.Path.{_≡_, refl, sym, ap, ap₂, _∙_}
+use mathlib.Core.Path.{_≡_, refl, sym, ap, ap₂, subst, _∙_}
 use mathlib.Core.Logic.{_≢_}
-use mathlib.Core.Bool.{Bool, true, false, _&&_, _||_, not}
+use mathlib.Core.Bool.{Bool, true, false, _&&_, _||_, not, false≢true}
 use mathlib.Core.List.{List, [], _∷_, _++_}
 use Prim.Native.Nat.{ℕ, zero, suc, _+_, _-_, _/_, _%_, _^_, _<_, _≤_}
 use native.Mathlib.Omega.{arith}
 use native.Mathlib.Numerals.{add-one}
+use native.Mathlib.Decide.{ℕ-discrete}
 use lib.Dec.{eqb, ltb}
-use lib.ListN.{length, getD}
-use borrow.Author.Tests.{ltb-true, lt-ltb, eq-eqb, ne-eqb, not-true}
-use Rattle.word.specs.Word.{if_then_else_, isSet}
-use Rattle.word.proofs.Truth.{tested}
+use lib.ListN.{length, getD, set, length-set}
+use lib.Seq.{getD-set-same, getD-set-other}
+use borrow.Author.Tests.{ltb-true, ltb-false, le-ltb, ne-eqb, not-true}
+use Rattle.word.specs.Word.{if_then_else_, isSet, flag}
+use Rattle.word.proofs.Truth.{and-left, and-right, and-none, and-true, tested, clash}
 use Rattle.layout.specs.Blocks.{block}
 use Rattle.records.specs.Records.{all}
+use Rattle.records.proofs.Counts.{either}
 use Rattle.tables.specs.Views.{coresOf, pagesOf, runs}
 use Rattle.reach.specs.Lists.{range, has, select}
-use Rattle.reach.specs.Reach.{members, reach, tablePages, reached, inMemory, mapByte, mapFor}
+use Rattle.reach.specs.Reach.{Pages, members, reach, tablePages, reached, inMemory, mapByte, mapFor}
+use Rattle.reach.proofs.Lists.{Each, has-append, in-all}
 use Rattle.separation.specs.Apart.{rest, runsAsUser}
 use Rattle.separation.specs.inner.Sides.{passes}
-use Rattle.separation.proofs.Mapped.{map-long, marked-is, byte-table, byte-in}
+use Rattle.separation.proofs.Mapped.{map-long, marked-is, byte-table, byte-writable, byte-in}
 use Rattle.reasons.specs.declared.Named.{Named}
 use Rattle.reasons.specs.declared.Way.{Way}
 use Rattle.reasons.specs.declared.Found.{Found}
@@ -27,11 +31,13 @@ use Rattle.reasons.specs.declared.Found.the-variants.{Nothing, Lowest}
 use Rattle.reasons.specs.declared.Side.the-variants.{Group, Rest}
 use Rattle.reasons.specs.declared.Reason.{Reason}
 use Rattle.reasons.specs.declared.Reason.the-variants.{NoReason, Refused, NotUser, BeyondMemory, OwnTable, Touches}
+use Rattle.reasons.specs.declared.search.Want.{Want}
 use Rattle.reasons.specs.Ways.{ways}
 use Rattle.reasons.specs.Why.{page, lowest, grants, spoils, byWay, fails, firstFailing, modeReason, beyondReason, tableReason, touchReason, reasonAt, whyNumber, orElse, firstAfter}
-use Rattle.reasons.specs.inner.Search.{wanted, sought, beyondFound, tableFound, touchFound, asReason, isNone, Sides}
-use Rattle.reasons.proofs.None.{isNothing, lowest-nothing, reached-all}
-use Rattle.reasons.proofs.Lists.{all-ext}
+use Rattle.reasons.specs.inner.Search.{wanted, sought, faultAt, Faults, Marked, faulty, beyondFound, tableFound, touchFound, asReason, isNone, Sides}
+use Rattle.reasons.proofs.None.{isNothing, lowest-nothing, reached-all, grants-all, spoils-all}
+use Rattle.reasons.proofs.Lists.{select-none, each-weak, all-ext}
+use Rattle.reasons.proofs.Searches.{wanted-below, wanted-out, wanted-table, wanted-page}
 
 -- ---- modes
 
@@ -106,15 +112,93 @@ pub map-size : (cs t m : List ℕ) → length (mapFor cs t m) ≡ pagesOf t
 unfolding mapFor
 map-size cs t m = map-long (λ (x : ℕ). mapByte (reach cs t m) x) (pagesOf t)
 
-select-ext : (p q : Way → Bool) (l : List Way) → ((w : Way) → p w ≡ q w) → select p l ≡ select q l
+-- two tests that agree on every way
+select-where : (p q : Way → Bool) (l : List Way) → Each (λ w. p w ≡ q w) l → select p l ≡ select q l
 unfolding select
-select-ext p q [] h = refl
-select-ext p q (w ∷ l) h = ap₂ (λ (b : Bool) (r : List Way). if b then w ∷ r else r) (h w) (select-ext p q l h)
+select-where p q [] h = refl
+select-where p q (w ∷ l) h = ap₂ (λ (b : Bool) (r : List Way). if b then w ∷ r else r) (h .0) (select-where p q l (h .1))
+
+select-same : (p q : Way → Bool) (l : List Way) → ((w : Way) → p w ≡ q w) → select p l ≡ select q l
+select-same p q l h = select-where p q l (every l)
+  where
+    every : (r : List Way) → Each (λ w. p w ≡ q w) r
+    every [] = tt
+    every (w ∷ r) = (h w, every r)
+
+all-each : (p : Way → Bool) (l : List Way) → all p l ≡ true → Each (λ w. p w ≡ true) l
+unfolding all
+all-each p [] e = tt
+all-each p (w ∷ l) e = (and-left (p w) _ e, all-each p l (and-right (p w) _ e))
+
+-- a list has its own elements
+itself : (l : List ℕ) → all (λ p. not (not (has p l))) l ≡ true
+itself l = in-all (λ p. not (not (has p l))) l (λ p h. rw h refl)
+
+-- ---- marks
+
+module _ (k : ℕ) (own other s : List ℕ) (low : ℕ) (F : Faults k own other s low) (d : k ≢ 0) where
+  abbrev want : Want
+  want = record { kind = k; low = low }
+
+  flagged : (b : Bool) → eqb (flag b) 1 ≡ b
+  flagged true = refl
+  flagged false = refl
+
+  mark-is : (p : ℕ) → p < length s → eqb (getD s p 0) 1 ≡ faultAt k (getD own p 0) (getD other p 0)
+  mark-is p h = ap (λ (z : ℕ). eqb z 1) (F .marks p h) ∙ flagged (faultAt k (getD own p 0) (getD other p 0))
+
+  pub wanted-is : (x : Named) → wanted want (length s) s x ≡ faulty k (length s) own other x
+  unfolding faulty
+  wanted-is x =
+      tested (ltb p low)
+      (λ b. let h : p < low = ltb-true p low b in sym (wanted-below want n s x h) ∙ sym (none (below h)))
+      (λ b. let h : low ≤ p = ltb-false p low b in
+      tested (ltb p n)
+      (λ i. let l : p < n = ltb-true p n i in
+      either (ℕ-discrete k 1)
+      (λ z. sym (wanted-table want n s x h z l) ∙ ap (λ (e : Bool). (eqb (x .level) 0 && x .write) && e) (mark-is p l) ∙ rw (z, i) refl)
+      (λ z. sym (wanted-page want n s x h d z l) ∙ ap (λ (e : Bool). (not (eqb (x .level) 0) || x .write) && e) (mark-is p l) ∙ rw (ne-eqb k 1 z, i) refl))
+      (λ i. sym (wanted-out want n s x h d (ltb-false p n i)) ∙ sym (none (ap (λ (e : Bool). e && faultAt k (getD own p 0) (getD other p 0)) i))))
+    where
+      p : ℕ
+      p = x .page
+
+      n : ℕ
+      n = length s
+
+      right : Bool
+      right = if eqb k 1 then eqb (x .level) 0 && x .write else not (eqb (x .level) 0) || x .write
+
+      none : ltb p n && faultAt k (getD own p 0) (getD other p 0) ≡ false → right && (ltb p n && faultAt k (getD own p 0) (getD other p 0)) ≡ false
+      none e = and-none right _ e
+
+      below : p < low → ltb p n && faultAt k (getD own p 0) (getD other p 0) ≡ false
+      below h = tested (ltb p n && faultAt k (getD own p 0) (getD other p 0)) (λ e. let i = ltb-true p n (and-left (ltb p n) _ e) in let j = F .least p i (and-right (ltb p n) _ e) in absurd (omega arith)) (λ e. e)
+
+  -- where no page is at fault nothing is found
+  pub none-wanted : (l : List Way) → length s ≤ low → Nothing ≡ sought (faulty k (length s) own other) l
+  unfolding sought lowest
+  none-wanted l h = sym (ap lowest (select-none (λ w. faulty k (length s) own other (w .names)) l (λ w. sym (wanted-is (w .names)) ∙ out (w .names))))
+    where
+      out : (x : Named) → wanted want (length s) s x ≡ false
+      out x = tested (ltb (x .page) low) (λ b. sym (wanted-below want (length s) s x (ltb-true (x .page) low b))) (λ b. let g : low ≤ x .page = ltb-false (x .page) low b in sym (wanted-out want (length s) s x g d (omega arith)))
+
+  pub wanted-faulty : (l : List Way) → sought (wanted want (length s) s) l ≡ sought (faulty k (length s) own other) l
+  unfolding sought
+  wanted-faulty l = ap lowest (select-same (λ w. wanted want (length s) s (w .names)) (λ w. faulty k (length s) own other (w .names)) l (λ w. wanted-is (w .names)))
+
+-- the same beside a memory of n pages
+module _ (k : ℕ) (own other s : List ℕ) (low n : ℕ) (z : length s ≡ n) (F : Faults k own other s low) (d : k ≢ 0) (l : List Way) where
+  pub none-faulty : n ≤ low → Nothing ≡ sought (faulty k n own other) l
+  none-faulty h = none-wanted k own other s low F d l (omega arith) ∙ ap (λ (i : ℕ). sought (faulty k i own other) l) z
+
+  pub find-faulty : sought (wanted (record { kind = k; low = low }) n s) l ≡ sought (faulty k n own other) l
+  find-faulty = ap (λ (i : ℕ). sought (wanted (record { kind = k; low = low }) i s) l) (sym z) ∙ wanted-faulty k own other s low F d l ∙ ap (λ (i : ℕ). sought (faulty k i own other) l) z
 
 module _ (cs t m : List ℕ) where
-  pub beyond-is : (c : List ℕ) → sought (wanted 0 (pagesOf t) c) (ways cs t m) ≡ beyondFound cs t m
+  pub beyond-is : (c : List ℕ) → sought (wanted (record { kind = 0; low = 0 }) (pagesOf t) c) (ways cs t m) ≡ beyondFound cs t m
   unfolding sought wanted beyondFound
-  beyond-is c = refl
+  beyond-is c = ap lowest (select-same (λ w. wanted (record { kind = 0; low = 0 }) (pagesOf t) c (w .names)) (λ w. not (ltb (page w) (pagesOf t))) (ways cs t m) (λ w. rw (le-ltb (page w) 0 (omega arith)) refl))
 
   pub beyond-none : (b : Bool) → b ≡ not (inMemory (reach cs t m) (pagesOf t)) → b ≡ false → Nothing ≡ beyondFound cs t m
   unfolding beyondFound inMemory
@@ -132,26 +216,95 @@ module _ (cs t m : List ℕ) where
       inside true e = refl
       inside false e = let z : _≡_ {A = ℕ} 0 1 = cc in absurd (omega arith)
 
-  -- the map's bytes, where a page is in memory
-  has-table : (p : ℕ) → ltb p (pagesOf t) ≡ true → eqb (getD (mapFor cs t m) p 0 / 2 % 2) 1 ≡ has p (tablePages (reach cs t m))
-  has-table p h = ap (λ (z : ℕ). eqb (z / 2 % 2) 1) (byte-in cs t m p (ltb-true p (pagesOf t) h)) ∙ byte-table (reach cs t m) p
+  -- a way that grants write comes to a page that the side can write, and one that spoils to such a page or a table
+  granting : Each (λ w. not (grants w && not (has (page w) (reach cs t m .writables))) ≡ true) (ways cs t m)
+  granting = all-each (λ w. not (grants w && not (has (page w) (reach cs t m .writables)))) (ways cs t m) (grants-all cs t m (λ p. not (has p (reach cs t m .writables))) ∙ itself (reach cs t m .writables))
 
-  has-any : (p : ℕ) → ltb p (pagesOf t) ≡ true → not (eqb (getD (mapFor cs t m) p 0) 0) ≡ has p (reached (reach cs t m))
-  has-any p h = ap (λ (z : ℕ). not (eqb z 0)) (byte-in cs t m p (ltb-true p (pagesOf t) h)) ∙ marked-is (reach cs t m) p
+  spoiling : Each (λ w. not (spoils w && not (has (page w) (reach cs t m .writables ++ tablePages (reach cs t m)))) ≡ true) (ways cs t m)
+  spoiling = all-each (λ w. not (spoils w && not (has (page w) (reach cs t m .writables ++ tablePages (reach cs t m))))) (ways cs t m) (spoils-all cs t m (λ p. not (has p (reach cs t m .writables ++ tablePages (reach cs t m)))) ∙ itself (reach cs t m .writables ++ tablePages (reach cs t m)))
 
-  -- a test where a page is in memory
-  guarded : (l a b c : Bool) → (l ≡ true → b ≡ c) → (if l then a && b else false) ≡ a && (l && c)
-  guarded true a b c f = ap (λ (z : Bool). a && z) (f refl)
-  guarded false true b c f = refl
-  guarded false false b c f = refl
+  module _ (p : ℕ) (h : ltb p (pagesOf t) ≡ true) where
+    byte-is : getD (mapFor cs t m) p 0 ≡ mapByte (reach cs t m) p
+    byte-is = byte-in cs t m p (ltb-true p (pagesOf t) h)
 
-  pub table-is : (c : List ℕ) → c ≡ mapFor cs t m → sought (wanted 1 (pagesOf t) c) (ways cs t m) ≡ tableFound cs t m
-  unfolding sought wanted tableFound
-  table-is c e = rw e (ap lowest (select-ext _ (λ w. grants w && (ltb (page w) (pagesOf t) && has (page w) (tablePages (reach cs t m)))) (ways cs t m) (λ w. guarded (ltb (page w) (pagesOf t)) (grants w) _ _ (has-table (page w)))))
+    has-table : isSet (getD (mapFor cs t m) p 0) 1 ≡ has p (tablePages (reach cs t m))
+    has-table = ap (λ (z : ℕ). isSet z 1) byte-is ∙ byte-table (reach cs t m) p
 
-  pub touch-is : (os c : List ℕ) → c ≡ mapFor cs t m → sought (wanted 2 (pagesOf t) c) (ways os t m) ≡ touchFound cs os t m
-  unfolding sought wanted touchFound
-  touch-is os c e = rw e (ap lowest (select-ext _ (λ w. spoils w && (ltb (page w) (pagesOf t) && has (page w) (reached (reach cs t m)))) (ways os t m) (λ w. guarded (ltb (page w) (pagesOf t)) (spoils w) _ _ (has-any (page w)))))
+    has-writable : isSet (getD (mapFor cs t m) p 0) 2 ≡ has p (reach cs t m .writables)
+    has-writable = ap (λ (z : ℕ). isSet z 2) byte-is ∙ byte-writable (reach cs t m) p
+
+    has-any : not (eqb (getD (mapFor cs t m) p 0) 0) ≡ has p (reached (reach cs t m))
+    has-any = ap (λ (z : ℕ). not (eqb z 0)) byte-is ∙ marked-is (reach cs t m) p
+
+  pub table-is : (c : List ℕ) → c ≡ mapFor cs t m → sought (faulty 1 (pagesOf t) c c) (ways cs t m) ≡ tableFound cs t m
+  unfolding sought faulty faultAt tableFound
+  table-is c e =
+      rw e (ap lowest (select-where _ (λ w. grants w && (ltb (page w) (pagesOf t) && has (page w) (tablePages (reach cs t m)))) (ways cs t m)
+      (each-weak (λ w. not (grants w && not (has (page w) (reach cs t m .writables))) ≡ true) _ (ways cs t m) (λ w h. same (grants w) (ltb (page w) (pagesOf t)) _ _ (has (page w) (tablePages (reach cs t m))) (has (page w) (reach cs t m .writables)) (has-table (page w)) (has-writable (page w)) h) granting)))
+    where
+      same : (g l a b x y : Bool) → (l ≡ true → a ≡ x) → (l ≡ true → b ≡ y) → not (g && not y) ≡ true → g && (l && (a && b)) ≡ g && (l && x)
+      same true true a b x true f u h = ap₂ _&&_ (f refl) (u refl) ∙ and-true x
+      same true true a b x false f u h = absurd (false≢true h)
+      same true false a b x y f u h = refl
+      same false l a b x y f u h = refl
+
+pub touch-is : (cs os t m c d : List ℕ) → c ≡ mapFor cs t m → d ≡ mapFor os t m → sought (faulty 2 (pagesOf t) c d) (ways os t m) ≡ touchFound cs os t m
+unfolding sought faulty faultAt touchFound
+touch-is cs os t m c d e q =
+    rw (e, q) (ap lowest (select-where _ (λ w. spoils w && (ltb (page w) (pagesOf t) && has (page w) (reached (reach cs t m)))) (ways os t m)
+    (each-weak (λ w. not (spoils w && not (has (page w) (Q .writables ++ tablePages Q))) ≡ true) _ (ways os t m)
+    (λ w h. same (spoils w) (ltb (page w) (pagesOf t)) _ _ (has (page w) (reached (reach cs t m))) (has (page w) (Q .writables ++ tablePages Q)) (has-any cs t m (page w)) (λ l. ap₂ _||_ (has-writable os t m (page w) l) (has-table os t m (page w) l) ∙ sym (has-append (page w) (Q .writables) (tablePages Q))) h)
+    (spoiling os t m))))
+  where
+    Q : Pages
+    Q = reach os t m
+
+    same : (g l a b x y : Bool) → (l ≡ true → a ≡ x) → (l ≡ true → b ≡ y) → not (g && not y) ≡ true → g && (l && (a && b)) ≡ g && (l && x)
+    same true true a b x true f u h = ap₂ _&&_ (f refl) (u refl) ∙ and-true x
+    same true true a b x false f u h = absurd (false≢true h)
+    same true false a b x y f u h = refl
+    same false l a b x y f u h = refl
+
+-- ---- pages at fault, from the last on
+
+pub fault-own : (k x y : ℕ) → k ≡ 1 → eqb (x / 2 % 2) 1 && eqb (x / 4 % 2) 1 ≡ faultAt k x y
+unfolding faultAt
+fault-own k x y e = rw e refl
+
+pub fault-both : (k x y : ℕ) → k ≢ 1 → not (eqb x 0) && (eqb (y / 4 % 2) 1 || eqb (y / 2 % 2) 1) ≡ faultAt k x y
+unfolding faultAt
+fault-both k x y d = rw (ne-eqb k 1 d) refl
+
+-- from page i on the pages at fault are marked, and none is lower than page low
+pub record From (k : ℕ) (own other s : List ℕ) (low i : ℕ) : Type 0 where
+  pub marks : (p : ℕ) → i ≤ p → p < length s → getD s p 0 ≡ flag (faultAt k (getD own p 0) (getD other p 0))
+  pub least : (p : ℕ) → i ≤ p → p < length s → faultAt k (getD own p 0) (getD other p 0) ≡ true → low ≤ p
+
+pub from-at : (k : ℕ) (own other s : List ℕ) (low i : ℕ) → 0 < i → From k own other s low i → From k own other s low (i - 1 + 1)
+from-at k own other s low i h F = let e : i - 1 + 1 ≡ i = omega arith in subst (From k own other s low) (sym e) F
+
+pub from-start : (k : ℕ) (own other s : List ℕ) → From k own other s (length s) (length s)
+from-start k own other s = record { marks = λ p h l. absurd (omega arith); least = λ p h l e. absurd (omega arith) }
+
+module _ (k : ℕ) (own other s : List ℕ) (low i : ℕ) (F : From k own other s low (i + 1)) (h : i < length s) (b : Bool) (e : b ≡ faultAt k (getD own i 0) (getD other i 0)) where
+  kept : (v p : ℕ) → i ≤ p → p < length (set s i v) → v ≡ flag b → getD (set s i v) p 0 ≡ flag (faultAt k (getD own p 0) (getD other p 0))
+  kept v p j l z =
+      either (ℕ-discrete p i)
+      (λ q. rw q (getD-set-same s i v 0 h ∙ z ∙ ap flag e))
+      (λ d. getD-set-other s i p v 0 d ∙ F .marks p (omega arith) (omega (arith, length-set s i v)))
+
+  pub from-fault : b ≡ true → From k own other (set s i 1) i i
+  from-fault t = record { marks = λ p j l. kept 1 p j l (sym (ap flag t)); least = λ p j l u. j }
+
+  pub from-good : b ≡ false → From k own other (set s i 0) low i
+  from-good t =
+      record {
+        marks = λ p j l. kept 0 p j l (sym (ap flag t));
+        least = λ p j l u. either (ℕ-discrete p i) (λ q. clash b (e ∙ sym (ap (λ (z : ℕ). faultAt k (getD own z 0) (getD other z 0)) q) ∙ u) t) (λ d. F .least p (omega arith) (omega (arith, length-set s i 0)) u);
+      }
+
+pub from-all : (k : ℕ) (own other r s : List ℕ) (low i : ℕ) → length s ≡ length r → i ≤ 0 → From k own other s low i → Marked k own other r s low
+from-all k own other r s low i q z F = record { long = q; faults = record { marks = λ p l. F .marks p (omega arith) l; least = λ p l e. F .least p (omega arith) l e } }
 
 -- ---- a way as a reason
 

@@ -11,7 +11,7 @@ use native.Mathlib.Decide.{ℕ-discrete}
 use lib.Dec.{eqb, ltb, leb}
 use lib.ListN.{length, getD, set, length-set}
 use lib.Seq.{getD-set-other}
-use borrow.Author.Tests.{lt-ltb, le-ltb, lt-leb, le-leb, eq-eqb, ne-eqb, ltb-true, ltb-false, not-true}
+use borrow.Author.Tests.{lt-ltb, le-ltb, lt-leb, le-leb, eq-eqb, ne-eqb, ltb-true, ltb-false, leb-true, not-true}
 use Rattle.word.specs.Word.{if_then_else_}
 use Rattle.word.specs.Bytes.{bytesAt}
 use Rattle.word.proofs.Truth.{and-left, and-right, and-both, tested}
@@ -28,29 +28,47 @@ use Rattle.reasons.specs.declared.Named.{Named}
 use Rattle.reasons.specs.declared.Way.{Way}
 use Rattle.reasons.specs.declared.Found.{Found}
 use Rattle.reasons.specs.declared.Found.the-variants.{Nothing, Lowest}
+use Rattle.reasons.specs.declared.search.Want.{Want}
 use Rattle.reasons.specs.Ways.{naming, entryName, nextName, further, nextWays, onward, allFrom}
 use Rattle.reasons.specs.Why.{page, lower, lowest}
-use Rattle.reasons.specs.inner.Search.{wanted, sought, tableNames, notLower, Known, Searched, throughEntry}
+use Rattle.reasons.specs.inner.Search.{wanted, isLowest, sought, tableNames, notLower, Known, Searched, throughEntry}
 use Rattle.reasons.proofs.Lists.{select-join, select-map, map-flatMap, flat-flat, flatMap-where, all-map}
 
 -- ---- what is looked for
 
-module _ (k n : ℕ) (c : List ℕ) (x : Named) where
-  pub wanted-beyond : k ≡ 0 → leb n (x .page) ≡ wanted k n c x
+module _ (a : Want) (n : ℕ) (c : List ℕ) (x : Named) where
+  pub wanted-below : x .page < a .low → false ≡ wanted a n c x
   unfolding wanted
-  wanted-beyond e = rw e (tested (ltb (x .page) n) (λ t. rw t (lt-leb n (x .page) (ltb-true (x .page) n t))) (λ t. rw t (le-leb n (x .page) (ltb-false (x .page) n t))))
+  wanted-below h = rw (lt-ltb (x .page) (a .low) h) refl
 
-  pub wanted-out : k ≢ 0 → n ≤ x .page → false ≡ wanted k n c x
-  unfolding wanted
-  wanted-out d h = rw (ne-eqb k 0 d, le-ltb (x .page) n h) refl
+  module _ (from : a .low ≤ x .page) where
+    pub wanted-beyond : a .kind ≡ 0 → leb n (x .page) ≡ wanted a n c x
+    unfolding wanted
+    wanted-beyond e = rw (le-ltb (x .page) (a .low) from, e) (tested (ltb (x .page) n) (λ t. rw t (lt-leb n (x .page) (ltb-true (x .page) n t))) (λ t. rw t (le-leb n (x .page) (ltb-false (x .page) n t))))
 
-  pub wanted-table : k ≡ 1 → x .page < n → (eqb (x .level) 0 && x .write) && eqb (getD c (x .page) 0 / 2 % 2) 1 ≡ wanted k n c x
-  unfolding wanted
-  wanted-table e h = rw (e, lt-ltb (x .page) n h) refl
+    pub wanted-out : a .kind ≢ 0 → n ≤ x .page → false ≡ wanted a n c x
+    unfolding wanted
+    wanted-out d h = rw (le-ltb (x .page) (a .low) from, ne-eqb (a .kind) 0 d, le-ltb (x .page) n h) refl
 
-  pub wanted-page : k ≢ 0 → k ≢ 1 → x .page < n → (not (eqb (x .level) 0) || x .write) && not (eqb (getD c (x .page) 0) 0) ≡ wanted k n c x
-  unfolding wanted
-  wanted-page d e h = rw (ne-eqb k 0 d, ne-eqb k 1 e, lt-ltb (x .page) n h) refl
+    pub wanted-table : a .kind ≡ 1 → x .page < n → (eqb (x .level) 0 && x .write) && eqb (getD c (x .page) 0) 1 ≡ wanted a n c x
+    unfolding wanted
+    wanted-table e h = rw (le-ltb (x .page) (a .low) from, e, lt-ltb (x .page) n h) refl
+
+    pub wanted-page : a .kind ≢ 0 → a .kind ≢ 1 → x .page < n → (not (eqb (x .level) 0) || x .write) && eqb (getD c (x .page) 0) 1 ≡ wanted a n c x
+    unfolding wanted
+    wanted-page d e h = rw (le-ltb (x .page) (a .low) from, ne-eqb (a .kind) 0 d, ne-eqb (a .kind) 1 e, lt-ltb (x .page) n h) refl
+
+-- nothing is looked for below the page low
+pub wanted-from : (a : Want) (n : ℕ) (c : List ℕ) (x : Named) → wanted a n c x ≡ true → a .low ≤ x .page
+unfolding wanted
+wanted-from a n c x = go (ltb (x .page) (a .low)) refl
+  where
+    rest : Bool
+    rest = if eqb (a .kind) 0 then not (ltb (x .page) n) else if ltb (x .page) n then (if eqb (a .kind) 1 then (eqb (x .level) 0 && x .write) && eqb (getD c (x .page) 0) 1 else (not (eqb (x .level) 0) || x .write) && eqb (getD c (x .page) 0) 1) else false
+
+    go : (b : Bool) → ltb (x .page) (a .low) ≡ b → (if b then false else rest) ≡ true → a .low ≤ x .page
+    go true e h = absurd (false≢true h)
+    go false e h = ltb-false (x .page) (a .low) e
 
 -- ---- the lower of two, of three
 
@@ -213,6 +231,16 @@ table-names m w h =
     ∙ ap (λ (a : ℕ). entryName (w .names) (entryAt m a)) (low-page (page w) i)
     ∙ entry-level (w .names) (naming 1 (page w % 2 ^ 20) false) (entryAt m (pteaAt (page w % 2 ^ 20) i)) h)
 
+-- a test that all pass that are selected
+all-passing : (p q : Way → Bool) (l : List Way) → ((w : Way) → p w ≡ true → q w ≡ true) → all q (select p l) ≡ true
+unfolding all select
+all-passing p q [] h = refl
+all-passing p q (w ∷ l) h = go (p w) refl (all-passing p q l h)
+  where
+    go : (b : Bool) → p w ≡ b → all q (select p l) ≡ true → all q (if b then w ∷ select p l else select p l) ≡ true
+    go true e r = and-both (q w) _ (h w e) r
+    go false e r = r
+
 module _ (P : Named → Bool) (m : List ℕ) where
   abbrev passing : List Way → List Way
   passing l = select (λ w. P (w .names)) l
@@ -261,6 +289,18 @@ module _ (P : Named → Bool) (m : List ℕ) where
         long = length-set s (page w % 2 ^ 20) 1;
         known = λ q u. either (ℕ-discrete q (page w % 2 ^ 20)) (λ z. rw z (sym (by-names g w h) ∙ subst (λ (o : Found). all (λ v. notLower o (page v)) (passing (nextWays m w)) ≡ true) (sym e) (lowest-all f (passing (nextWays m w))))) (λ d. subst (Known P m s) (sym e) (known-still s f (sought P (nextWays m w)) k) q (sym (getD-set-other s (page w % 2 ^ 20) q 1 0 d) ∙ u));
       }
+
+  -- nothing lower can be found
+  pub searched-low : (low : ℕ) → ((x : Named) → P x ≡ true → low ≤ x .page) → (f : Found) (s : List ℕ) (l : List Way) (b : Bool) → Known P m s f → b ≡ isLowest f low → b ≡ true → Searched P m f s f s l
+  unfolding sought
+  searched-low low h f s l b k e t = searched-by f f s l k (sym (quiet-none f (passing l) (none-lower f l (sym e ∙ t))))
+    where
+      below : (g : Found) (w : Way) → isLowest g low ≡ true → P (w .names) ≡ true → notLower g (page w) ≡ true
+      below Nothing w u v = absurd (false≢true u)
+      below (Lowest o) w u v = let i = leb-true (page o) low u in let j = h (w .names) v in rw (le-ltb (page w) (page o) (omega arith)) refl
+
+      none-lower : (g : Found) (r : List Way) → isLowest g low ≡ true → all (λ w. notLower g (page w)) (passing r) ≡ true
+      none-lower g r u = all-passing (λ w. P (w .names)) (λ w. notLower g (page w)) r (λ w v. below g w u v)
 
 -- ---- a loop from 0
 

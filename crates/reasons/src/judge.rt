@@ -3,6 +3,7 @@ use super::Found;
 use super::Reason;
 use super::Side;
 use super::roots::find;
+use super::search::Want;
 use layout::CORES;
 use layout::MOST_PAGES;
 use layout::PAGES;
@@ -13,6 +14,7 @@ ghost use lib.ListN.{length};
 ghost use Rattle.tables.specs.Views.{coresOf, pagesOf};
 ghost use Rattle.tables.specs.Sound.{sound};
 ghost use Rattle.reach.specs.Reach.{members, reach, inMemory, mapFor};
+ghost use Rattle.reasons.specs.Ways as w;
 ghost use Rattle.reasons.specs.Why as x;
 ghost use Rattle.reasons.specs.inner.Search as y;
 
@@ -64,9 +66,70 @@ fn beyond(t: &[u32], m: &[u8], map: &[u8], group: u32, strays: bool) -> Found
     ensures { λ r. ⌜ r ≡ y.beyondFound (members group (coresOf (now (t .entry)))) (now (t .entry)) (now (m .entry)) ⌝ }
 {
     if strays {
-        return find(t, m, 0, map, group);
+        return find(t, m, Want { kind: 0, low: 0 }, map, group);
     }
     Found::Nothing
+}
+
+// Whether a page is at fault by its bytes in two maps: writable and a table (kind 1), or in the first map and writable or a table in the second.
+fn is_fault(kind: u32, own: u8, other: u8) -> bool
+    ensures { λ r. ⌜ r ≡ y.faultAt kind own other ⌝ }
+{
+    if kind == 1 {
+        return (own / 2 % 2 == 1) & (own / 4 % 2 == 1);
+    }
+    (own != 0) & ((other / 4 % 2 == 1) | (other / 2 % 2 == 1))
+}
+
+// Marks the pages at fault, and gives the lowest of them; the number of pages where there is none.
+fn mark_faults(kind: u32, own: &[u8], other: &[u8], marks: &mut [u8]) -> u32
+    requires { ⌜ (length (now own) ≡ length (now marks)) × (length (now other) ≡ length (now marks)) × (length (now marks) ≤ 4096) ⌝ }
+    ensures { λ r. ⌜ y.Marked kind (now (own .entry)) (now (other .entry)) (now (marks .entry)) (now (marks .exit)) r ⌝ }
+{
+    let mut i = marks.len();
+    let mut low = i as u32;
+    while 0 < i {
+        i -= 1;
+        if is_fault(kind, own[i], other[i]) {
+            marks[i] = 1;
+            low = i as u32;
+        } else {
+            marks[i] = 0;
+        }
+    }
+    low
+}
+
+// The way of a group to the lowest page at fault.
+fn marked(
+    t: &[u32],
+    m: &[u8],
+    kind: u32,
+    own: &[u8],
+    other: &[u8],
+    group: u32,
+    marks: &mut [u8],
+) -> Found
+    requires { ⌜ (sound (now t) (length (now m)) ≡ true) × (1 ≤ kind) ⌝ }
+    requires { ⌜ (length (now own) ≡ pagesOf (now t)) × (length (now other) ≡ pagesOf (now t)) × (length (now marks) ≡ pagesOf (now t)) ⌝ }
+    ensures { λ r. ⌜ r ≡ y.sought (y.faulty kind (pagesOf (now (t .entry))) (now (own .entry)) (now (other .entry))) (w.ways (members group (coresOf (now (t .entry)))) (now (t .entry)) (now (m .entry))) ⌝ }
+{
+    let low = mark_faults(kind, own, other, marks);
+    if t[PAGES] <= low {
+        return Found::Nothing;
+    }
+    find(t, m, Want { kind, low }, marks, group)
+}
+
+// The same with marks of its own.
+fn at_fault(t: &[u32], m: &[u8], kind: u32, own: &[u8], other: &[u8], group: u32) -> Found
+    requires { ⌜ (sound (now t) (length (now m)) ≡ true) × (1 ≤ kind) ⌝ }
+    requires { ⌜ (length (now own) ≡ pagesOf (now t)) × (length (now other) ≡ pagesOf (now t)) ⌝ }
+    ensures { λ r. ⌜ r ≡ y.sought (y.faulty kind (pagesOf (now (t .entry))) (now (own .entry)) (now (other .entry))) (w.ways (members group (coresOf (now (t .entry)))) (now (t .entry)) (now (m .entry))) ⌝ }
+{
+    let pages = t[PAGES] as usize;
+    let mut marks = [0u8; MOST_PAGES];
+    marked(t, m, kind, own, other, group, &mut marks[..pages])
 }
 
 // The way to the lowest page that a side can write and uses as a table.
@@ -75,16 +138,17 @@ fn own_table(t: &[u32], m: &[u8], map: &[u8], group: u32) -> Found
     requires { ⌜ now map ≡ mapFor (members group (coresOf (now t))) (now t) (now m) ⌝ }
     ensures { λ r. ⌜ r ≡ y.tableFound (members group (coresOf (now (t .entry)))) (now (t .entry)) (now (m .entry)) ⌝ }
 {
-    find(t, m, 1, map, group)
+    at_fault(t, m, 1, map, map, group)
 }
 
-// The way of others to the lowest page of the map that they can write or use as a table.
-fn touched(t: &[u32], m: &[u8], map: &[u8], group: u32, others: u32) -> Found
+// The way of others to the lowest page of the group that they can write or use as a table.
+fn touched(t: &[u32], m: &[u8], own: &[u8], other: &[u8], group: u32, others: u32) -> Found
     requires { ⌜ sound (now t) (length (now m)) ≡ true ⌝ }
-    requires { ⌜ now map ≡ mapFor (members group (coresOf (now t))) (now t) (now m) ⌝ }
+    requires { ⌜ now own ≡ mapFor (members group (coresOf (now t))) (now t) (now m) ⌝ }
+    requires { ⌜ now other ≡ mapFor (members others (coresOf (now t))) (now t) (now m) ⌝ }
     ensures { λ r. ⌜ r ≡ y.touchFound (members group (coresOf (now (t .entry)))) (members others (coresOf (now (t .entry)))) (now (t .entry)) (now (m .entry)) ⌝ }
 {
-    find(t, m, 2, map, others)
+    at_fault(t, m, 2, own, other, others)
 }
 
 // A way as reason n.
@@ -142,7 +206,7 @@ fn reason_at(
     if n == 5 {
         return as_reason(5, own_table(t, m, other, others));
     }
-    as_reason(6, touched(t, m, own, group, others))
+    as_reason(6, touched(t, m, own, other, group, others))
 }
 
 // Whether an answer is no reason.

@@ -3,6 +3,7 @@ use super::Found;
 use super::Named;
 use super::Root;
 use super::Way;
+use super::search::Want;
 use super::search::from_root;
 use layout::CORES;
 use layout::MOST_PAGES;
@@ -65,7 +66,7 @@ fn record_way(b: &[u32], k: u32, store: bool, n: u32) -> Way
 // The ways from the records of a chain.
 fn from_chain(
     m: &[u8],
-    kind: u32,
+    want: Want,
     pages: u32,
     map: &[u8],
     b: &[u32],
@@ -77,8 +78,8 @@ fn from_chain(
 ) -> Found
     requires { ⌜ (length (now m) ≡ 4096 * pages) × (pages ≤ 4096) × (length (now map) ≡ pages) × (length (now seen) ≡ 4096) ⌝ }
     requires { ⌜ (length (now b) ≡ 256) × (head < 256) × (all small (chainAt (now b) head) ≡ true) ⌝ }
-    requires { ⌜ y.Known (y.wanted kind pages (now map)) (now m) (now seen) best ⌝ }
-    ensures { λ r. ⌜ y.Searched (y.wanted kind pages (now (map .entry))) (now (m .entry)) best (now (seen .entry)) r (now (seen .exit)) (flatMap (y.recordWays (now (m .entry)) (now (b .entry)) k store) (chainAt (now (b .entry)) head)) ⌝ }
+    requires { ⌜ y.Known (y.wanted want pages (now map)) (now m) (now seen) best ⌝ }
+    ensures { λ r. ⌜ y.Searched (y.wanted want pages (now (map .entry))) (now (m .entry)) best (now (seen .entry)) r (now (seen .exit)) (flatMap (y.recordWays (now (m .entry)) (now (b .entry)) k store) (chainAt (now (b .entry)) head)) ⌝ }
 {
     let mut found = best;
     let mut n = b[head];
@@ -88,7 +89,7 @@ fn from_chain(
             return found;
         }
         let way = record_way(b, k, store, n);
-        found = from_root(m, kind, pages, map, way, found, seen);
+        found = from_root(m, want, pages, map, way, found, seen);
         n = b[RECORDS + RECORD_WORDS * (n as usize)];
         fuel -= 1;
     }
@@ -98,7 +99,7 @@ fn from_chain(
 // The ways from a block.
 fn from_block(
     m: &[u8],
-    kind: u32,
+    want: Want,
     pages: u32,
     map: &[u8],
     b: &[u32],
@@ -108,8 +109,8 @@ fn from_block(
 ) -> Found
     requires { ⌜ (length (now m) ≡ 4096 * pages) × (pages ≤ 4096) × (length (now map) ≡ pages) × (length (now seen) ≡ 4096) ⌝ }
     requires { ⌜ (length (now b) ≡ 256) × (linked (now b) ≡ true) ⌝ }
-    requires { ⌜ y.Known (y.wanted kind pages (now map)) (now m) (now seen) best ⌝ }
-    ensures { λ r. ⌜ y.Searched (y.wanted kind pages (now (map .entry))) (now (m .entry)) best (now (seen .entry)) r (now (seen .exit)) (y.blockWays (now (m .entry)) (now (b .entry)) k) ⌝ }
+    requires { ⌜ y.Known (y.wanted want pages (now map)) (now m) (now seen) best ⌝ }
+    ensures { λ r. ⌜ y.Searched (y.wanted want pages (now (map .entry))) (now (m .entry)) best (now (seen .entry)) r (now (seen .exit)) (y.blockWays (now (m .entry)) (now (b .entry)) k) ⌝ }
 {
     let page = tlb::origin(b);
     let way = Way {
@@ -124,16 +125,16 @@ fn from_block(
             write: false,
         },
     };
-    let first = from_root(m, kind, pages, map, way, best, seen);
-    let walks = from_chain(m, kind, pages, map, b, k, false, WALK_HEAD, first, seen);
-    from_chain(m, kind, pages, map, b, k, true, STORE_HEAD, walks, seen)
+    let first = from_root(m, want, pages, map, way, best, seen);
+    let walks = from_chain(m, want, pages, map, b, k, false, WALK_HEAD, first, seen);
+    from_chain(m, want, pages, map, b, k, true, STORE_HEAD, walks, seen)
 }
 
 // The ways of core k, if it is in the group.
 fn from_core(
     t: &[u32],
     m: &[u8],
-    kind: u32,
+    want: Want,
     pages: u32,
     map: &[u8],
     group: u32,
@@ -143,11 +144,11 @@ fn from_core(
 ) -> Found
     requires { ⌜ (length (now m) ≡ 4096 * pages) × (pages ≤ 4096) × (length (now map) ≡ pages) × (length (now seen) ≡ 4096) ⌝ }
     requires { ⌜ (k < 4) × (blockAt k + blockWords ≤ length (now t)) × (linked (block (now t) k) ≡ true) ⌝ }
-    requires { ⌜ y.Known (y.wanted kind pages (now map)) (now m) (now seen) best ⌝ }
-    ensures { λ r. ⌜ y.Searched (y.wanted kind pages (now (map .entry))) (now (m .entry)) best (now (seen .entry)) r (now (seen .exit)) (y.memberWays group (now (t .entry)) (now (m .entry)) k) ⌝ }
+    requires { ⌜ y.Known (y.wanted want pages (now map)) (now m) (now seen) best ⌝ }
+    ensures { λ r. ⌜ y.Searched (y.wanted want pages (now (map .entry))) (now (m .entry)) best (now (seen .entry)) r (now (seen .exit)) (y.memberWays group (now (t .entry)) (now (m .entry)) k) ⌝ }
 {
     if word::shift_right(group, k) % 2 == 1 {
-        return from_block(m, kind, pages, map, layout::block(t, k), k, best, seen);
+        return from_block(m, want, pages, map, layout::block(t, k), k, best, seen);
     }
     best
 }
@@ -156,7 +157,7 @@ fn from_core(
 fn from_cores(
     t: &[u32],
     m: &[u8],
-    kind: u32,
+    want: Want,
     pages: u32,
     map: &[u8],
     group: u32,
@@ -164,26 +165,26 @@ fn from_cores(
 ) -> Found
     requires { ⌜ sound (now t) (length (now m)) ≡ true ⌝ }
     requires { ⌜ (pages ≡ pagesOf (now t)) × (length (now map) ≡ pages) × (length (now seen) ≡ 4096) ⌝ }
-    requires { ⌜ y.Known (y.wanted kind pages (now map)) (now m) (now seen) Found.Nothing ⌝ }
-    ensures { λ r. ⌜ r ≡ y.sought (y.wanted kind pages (now (map .entry))) (w.ways (members group (coresOf (now (t .entry)))) (now (t .entry)) (now (m .entry))) ⌝ }
+    requires { ⌜ y.Known (y.wanted want pages (now map)) (now m) (now seen) Found.Nothing ⌝ }
+    ensures { λ r. ⌜ r ≡ y.sought (y.wanted want pages (now (map .entry))) (w.ways (members group (coresOf (now (t .entry)))) (now (t .entry)) (now (m .entry))) ⌝ }
 {
     let cores = t[CORES];
     let mut found = Found::Nothing;
     let mut k: u32 = 0;
     while k < cores {
-        found = from_core(t, m, kind, pages, map, group, k, found, seen);
+        found = from_core(t, m, want, pages, map, group, k, found, seen);
         k += 1;
     }
     found
 }
 
 // The way to the lowest page that is looked for.
-pub(crate) fn find(t: &[u32], m: &[u8], kind: u32, map: &[u8], group: u32) -> Found
+pub(crate) fn find(t: &[u32], m: &[u8], want: Want, map: &[u8], group: u32) -> Found
     requires { ⌜ sound (now t) (length (now m)) ≡ true ⌝ }
     requires { ⌜ length (now map) ≡ pagesOf (now t) ⌝ }
-    ensures { λ r. ⌜ r ≡ y.sought (y.wanted kind (pagesOf (now (t .entry))) (now (map .entry))) (w.ways (members group (coresOf (now (t .entry)))) (now (t .entry)) (now (m .entry))) ⌝ }
+    ensures { λ r. ⌜ r ≡ y.sought (y.wanted want (pagesOf (now (t .entry))) (now (map .entry))) (w.ways (members group (coresOf (now (t .entry)))) (now (t .entry)) (now (m .entry))) ⌝ }
 {
     let pages = t[PAGES];
     let mut seen = [0u8; MOST_PAGES];
-    from_cores(t, m, kind, pages, map, group, &mut seen)
+    from_cores(t, m, want, pages, map, group, &mut seen)
 }

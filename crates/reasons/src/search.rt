@@ -15,12 +15,23 @@ ghost use Rattle.reasons.specs.Ways as w;
 ghost use Rattle.reasons.specs.Why as x;
 ghost use Rattle.reasons.specs.inner.Search as y;
 
+// What is looked for: pages from `low` on that are beyond memory (kind 0), or that the map marks, by a way that grants write (kind 1), by a way that
+// grants write or comes to a table (else).
+pub(crate) struct Want {
+    pub kind: u32,
+    pub low: u32,
+}
+
 // Whether a page is looked for, by what names it.
-fn is_wanted(kind: u32, pages: u32, map: &[u8], names: Named) -> bool
+fn is_wanted(want: Want, pages: u32, map: &[u8], names: Named) -> bool
     requires { ⌜ length (now map) ≡ pages ⌝ }
-    ensures { λ r. ⌜ r ≡ y.wanted kind pages (now (map .entry)) names ⌝ }
+    ensures { λ r. ⌜ r ≡ y.wanted want pages (now (map .entry)) names ⌝ }
 {
     let page = names.page;
+    let kind = want.kind;
+    if page < want.low {
+        return false;
+    }
     if kind == 0 {
         return pages <= page;
     }
@@ -28,11 +39,21 @@ fn is_wanted(kind: u32, pages: u32, map: &[u8], names: Named) -> bool
         let at = page as usize;
         let b = map[at];
         if kind == 1 {
-            return (names.level == 0) & names.write & (b / 2 % 2 == 1);
+            return (names.level == 0) & names.write & (b == 1);
         }
-        return ((names.level != 0) | names.write) & (b != 0);
+        return ((names.level != 0) | names.write) & (b == 1);
     }
     false
+}
+
+// Whether nothing lower can be found.
+fn is_lowest(best: Found, low: u32) -> bool
+    ensures { λ r. ⌜ r ≡ y.isLowest best low ⌝ }
+{
+    match best {
+        Found::Nothing => false,
+        Found::Lowest(way) => way.names.page <= low,
+    }
 }
 
 // A way where it is lower than the best so far.
@@ -51,11 +72,11 @@ fn lower(best: Found, way: Way) -> Found
 }
 
 // The same where it is looked for.
-fn take(kind: u32, pages: u32, map: &[u8], way: Way, best: Found) -> Found
+fn take(want: Want, pages: u32, map: &[u8], way: Way, best: Found) -> Found
     requires { ⌜ length (now map) ≡ pages ⌝ }
-    ensures { λ r. ⌜ r ≡ x.lower best (y.sought (y.wanted kind pages (now (map .entry))) (way ∷ [])) ⌝ }
+    ensures { λ r. ⌜ r ≡ x.lower best (y.sought (y.wanted want pages (now (map .entry))) (way ∷ [])) ⌝ }
 {
-    if is_wanted(kind, pages, map, way.names) {
+    if is_wanted(want, pages, map, way.names) {
         return lower(best, way);
     }
     best
@@ -101,13 +122,13 @@ fn further(way: Way, i: u32, names: Named) -> Way
 }
 
 // The way that goes on by entry i, whose word is e.
-fn take_entry(kind: u32, pages: u32, map: &[u8], way: Way, i: u32, e: u32, best: Found) -> Found
+fn take_entry(want: Want, pages: u32, map: &[u8], way: Way, i: u32, e: u32, best: Found) -> Found
     requires { ⌜ (length (now map) ≡ pages) × (way .entries < 2) × (1 ≤ way .names .level) × (i < 1024) ⌝ }
-    ensures { λ r. ⌜ r ≡ x.lower best (y.sought (y.wanted kind pages (now (map .entry))) (lists.map (w.further way i) (w.entryName (way .names) (Entry.Word e)))) ⌝ }
+    ensures { λ r. ⌜ r ≡ x.lower best (y.sought (y.wanted want pages (now (map .entry))) (lists.map (w.further way i) (w.entryName (way .names) (Entry.Word e)))) ⌝ }
 {
     if tlb::present(e) {
         let names = named(way.names.level, e);
-        if is_wanted(kind, pages, map, names) {
+        if is_wanted(want, pages, map, names) {
             return lower(best, further(way, i, names));
         }
     }
@@ -115,17 +136,17 @@ fn take_entry(kind: u32, pages: u32, map: &[u8], way: Way, i: u32, e: u32, best:
 }
 
 // The ways that go on by one entry of a table.
-fn scan(m: &[u8], kind: u32, pages: u32, map: &[u8], way: Way, best: Found) -> Found
+fn scan(m: &[u8], want: Want, pages: u32, map: &[u8], way: Way, best: Found) -> Found
     requires { ⌜ (length (now m) ≡ 4096 * pages) × (pages ≤ 4096) × (length (now map) ≡ pages) ⌝ }
     requires { ⌜ (way .names .page % 2 ^ 20 < pages) × (way .entries < 2) × (1 ≤ way .names .level) ⌝ }
-    ensures { λ r. ⌜ r ≡ x.lower best (y.sought (y.wanted kind pages (now (map .entry))) (w.nextWays (now (m .entry)) way)) ⌝ }
+    ensures { λ r. ⌜ r ≡ x.lower best (y.sought (y.wanted want pages (now (map .entry))) (w.nextWays (now (m .entry)) way)) ⌝ }
 {
     let start = 4096 * ((way.names.page % 0x100000) as usize);
     let mut found = best;
     let mut i: u32 = 0;
     while i < 1024 {
         let e = word::read_word(m, start + 4 * (i as usize));
-        found = take_entry(kind, pages, map, way, i, e, found);
+        found = take_entry(want, pages, map, way, i, e, found);
         i += 1;
     }
     found
@@ -134,7 +155,7 @@ fn scan(m: &[u8], kind: u32, pages: u32, map: &[u8], way: Way, best: Found) -> F
 // The same for a second-level table, unless it was gone through before.
 fn scan_once(
     m: &[u8],
-    kind: u32,
+    want: Want,
     pages: u32,
     map: &[u8],
     way: Way,
@@ -143,9 +164,12 @@ fn scan_once(
 ) -> Found
     requires { ⌜ (length (now m) ≡ 4096 * pages) × (pages ≤ 4096) × (length (now map) ≡ pages) × (length (now seen) ≡ 4096) ⌝ }
     requires { ⌜ (way .entries < 2) × (way .names .level ≡ 1) ⌝ }
-    requires { ⌜ y.Known (y.wanted kind pages (now map)) (now m) (now seen) best ⌝ }
-    ensures { λ r. ⌜ y.Searched (y.wanted kind pages (now (map .entry))) (now (m .entry)) best (now (seen .entry)) r (now (seen .exit)) (w.nextWays (now (m .entry)) way) ⌝ }
+    requires { ⌜ y.Known (y.wanted want pages (now map)) (now m) (now seen) best ⌝ }
+    ensures { λ r. ⌜ y.Searched (y.wanted want pages (now (map .entry))) (now (m .entry)) best (now (seen .entry)) r (now (seen .exit)) (w.nextWays (now (m .entry)) way) ⌝ }
 {
+    if is_lowest(best, want.low) {
+        return best;
+    }
     let page = way.names.page % 0x100000;
     if page < pages {
         let at = page as usize;
@@ -153,7 +177,7 @@ fn scan_once(
             return best;
         }
         seen[at] = 1;
-        return scan(m, kind, pages, map, way, best);
+        return scan(m, want, pages, map, way, best);
     }
     best
 }
@@ -161,7 +185,7 @@ fn scan_once(
 // A way to a second-level table, and those that go on from it.
 fn from_second(
     m: &[u8],
-    kind: u32,
+    want: Want,
     pages: u32,
     map: &[u8],
     way: Way,
@@ -170,17 +194,17 @@ fn from_second(
 ) -> Found
     requires { ⌜ (length (now m) ≡ 4096 * pages) × (pages ≤ 4096) × (length (now map) ≡ pages) × (length (now seen) ≡ 4096) ⌝ }
     requires { ⌜ (way .entries < 2) × (way .names .level ≡ 1) ⌝ }
-    requires { ⌜ y.Known (y.wanted kind pages (now map)) (now m) (now seen) best ⌝ }
-    ensures { λ r. ⌜ y.Searched (y.wanted kind pages (now (map .entry))) (now (m .entry)) best (now (seen .entry)) r (now (seen .exit)) (w.onward (now (m .entry)) 1 way) ⌝ }
+    requires { ⌜ y.Known (y.wanted want pages (now map)) (now m) (now seen) best ⌝ }
+    ensures { λ r. ⌜ y.Searched (y.wanted want pages (now (map .entry))) (now (m .entry)) best (now (seen .entry)) r (now (seen .exit)) (w.onward (now (m .entry)) 1 way) ⌝ }
 {
-    let found = take(kind, pages, map, way, best);
-    scan_once(m, kind, pages, map, way, found, seen)
+    let found = take(want, pages, map, way, best);
+    scan_once(m, want, pages, map, way, found, seen)
 }
 
 // The ways that go on by entry i of a first-level table, whose word is e.
 fn from_entry(
     m: &[u8],
-    kind: u32,
+    want: Want,
     pages: u32,
     map: &[u8],
     way: Way,
@@ -191,13 +215,13 @@ fn from_entry(
 ) -> Found
     requires { ⌜ (length (now m) ≡ 4096 * pages) × (pages ≤ 4096) × (length (now map) ≡ pages) × (length (now seen) ≡ 4096) ⌝ }
     requires { ⌜ (way .entries ≡ 0) × (way .names .level ≡ 2) × (i < 1024) ⌝ }
-    requires { ⌜ y.Known (y.wanted kind pages (now map)) (now m) (now seen) best ⌝ }
-    ensures { λ r. ⌜ y.Searched (y.wanted kind pages (now (map .entry))) (now (m .entry)) best (now (seen .entry)) r (now (seen .exit)) (y.throughEntry (now (m .entry)) way i (Entry.Word e)) ⌝ }
+    requires { ⌜ y.Known (y.wanted want pages (now map)) (now m) (now seen) best ⌝ }
+    ensures { λ r. ⌜ y.Searched (y.wanted want pages (now (map .entry))) (now (m .entry)) best (now (seen .entry)) r (now (seen .exit)) (y.throughEntry (now (m .entry)) way i (Entry.Word e)) ⌝ }
 {
     if tlb::present(e) {
         let names = named(way.names.level, e);
         let on = further(way, i, names);
-        return from_second(m, kind, pages, map, on, best, seen);
+        return from_second(m, want, pages, map, on, best, seen);
     }
     best
 }
@@ -205,7 +229,7 @@ fn from_entry(
 // The ways that go on from a first-level table.
 fn from_entries(
     m: &[u8],
-    kind: u32,
+    want: Want,
     pages: u32,
     map: &[u8],
     way: Way,
@@ -214,15 +238,15 @@ fn from_entries(
 ) -> Found
     requires { ⌜ (length (now m) ≡ 4096 * pages) × (pages ≤ 4096) × (length (now map) ≡ pages) × (length (now seen) ≡ 4096) ⌝ }
     requires { ⌜ (way .names .page % 2 ^ 20 < pages) × (way .entries ≡ 0) × (way .names .level ≡ 2) ⌝ }
-    requires { ⌜ y.Known (y.wanted kind pages (now map)) (now m) (now seen) best ⌝ }
-    ensures { λ r. ⌜ y.Searched (y.wanted kind pages (now (map .entry))) (now (m .entry)) best (now (seen .entry)) r (now (seen .exit)) (flatMap (w.onward (now (m .entry)) 1) (w.nextWays (now (m .entry)) way)) ⌝ }
+    requires { ⌜ y.Known (y.wanted want pages (now map)) (now m) (now seen) best ⌝ }
+    ensures { λ r. ⌜ y.Searched (y.wanted want pages (now (map .entry))) (now (m .entry)) best (now (seen .entry)) r (now (seen .exit)) (flatMap (w.onward (now (m .entry)) 1) (w.nextWays (now (m .entry)) way)) ⌝ }
 {
     let start = 4096 * ((way.names.page % 0x100000) as usize);
     let mut found = best;
     let mut i: u32 = 0;
     while i < 1024 {
         let e = word::read_word(m, start + 4 * (i as usize));
-        found = from_entry(m, kind, pages, map, way, i, e, found, seen);
+        found = from_entry(m, want, pages, map, way, i, e, found, seen);
         i += 1;
     }
     found
@@ -231,7 +255,7 @@ fn from_entries(
 // A way to a first-level table, and those that go on from it.
 fn from_first(
     m: &[u8],
-    kind: u32,
+    want: Want,
     pages: u32,
     map: &[u8],
     way: Way,
@@ -240,12 +264,12 @@ fn from_first(
 ) -> Found
     requires { ⌜ (length (now m) ≡ 4096 * pages) × (pages ≤ 4096) × (length (now map) ≡ pages) × (length (now seen) ≡ 4096) ⌝ }
     requires { ⌜ (way .entries ≡ 0) × (way .names .level ≡ 2) ⌝ }
-    requires { ⌜ y.Known (y.wanted kind pages (now map)) (now m) (now seen) best ⌝ }
-    ensures { λ r. ⌜ y.Searched (y.wanted kind pages (now (map .entry))) (now (m .entry)) best (now (seen .entry)) r (now (seen .exit)) (w.onward (now (m .entry)) 2 way) ⌝ }
+    requires { ⌜ y.Known (y.wanted want pages (now map)) (now m) (now seen) best ⌝ }
+    ensures { λ r. ⌜ y.Searched (y.wanted want pages (now (map .entry))) (now (m .entry)) best (now (seen .entry)) r (now (seen .exit)) (w.onward (now (m .entry)) 2 way) ⌝ }
 {
-    let found = take(kind, pages, map, way, best);
+    let found = take(want, pages, map, way, best);
     if way.names.page % 0x100000 < pages {
-        return from_entries(m, kind, pages, map, way, found, seen);
+        return from_entries(m, want, pages, map, way, found, seen);
     }
     found
 }
@@ -253,7 +277,7 @@ fn from_first(
 // A way that ends where it begins, and all that go on from it.
 pub(crate) fn from_root(
     m: &[u8],
-    kind: u32,
+    want: Want,
     pages: u32,
     map: &[u8],
     way: Way,
@@ -262,18 +286,18 @@ pub(crate) fn from_root(
 ) -> Found
     requires { ⌜ (length (now m) ≡ 4096 * pages) × (pages ≤ 4096) × (length (now map) ≡ pages) × (length (now seen) ≡ 4096) ⌝ }
     requires { ⌜ way .entries ≡ 0 ⌝ }
-    requires { ⌜ y.Known (y.wanted kind pages (now map)) (now m) (now seen) best ⌝ }
-    ensures { λ r. ⌜ y.Searched (y.wanted kind pages (now (map .entry))) (now (m .entry)) best (now (seen .entry)) r (now (seen .exit)) (w.allFrom (now (m .entry)) way) ⌝ }
+    requires { ⌜ y.Known (y.wanted want pages (now map)) (now m) (now seen) best ⌝ }
+    ensures { λ r. ⌜ y.Searched (y.wanted want pages (now (map .entry))) (now (m .entry)) best (now (seen .entry)) r (now (seen .exit)) (w.allFrom (now (m .entry)) way) ⌝ }
 {
     let level = way.names.level;
     if level == 0 {
-        return take(kind, pages, map, way, best);
+        return take(want, pages, map, way, best);
     }
     if level == 1 {
-        return from_second(m, kind, pages, map, way, best, seen);
+        return from_second(m, want, pages, map, way, best, seen);
     }
     if level == 2 {
-        return from_first(m, kind, pages, map, way, best, seen);
+        return from_first(m, want, pages, map, way, best, seen);
     }
     best
 }

@@ -4,10 +4,10 @@
 use mathlib.Core.Path.{_≡_}
 use mathlib.Core.Bool.{Bool, true, false, _&&_, _||_, not}
 use mathlib.Core.List.{List, [], map, flatMap}
-use Prim.Native.Nat.{ℕ, _/_, _%_}
-use lib.Dec.{eqb, ltb}
+use Prim.Native.Nat.{ℕ, _<_, _≤_}
+use lib.Dec.{eqb, ltb, leb}
 use lib.ListN.{length, getD}
-use Rattle.word.specs.Word.{if_then_else_, isSet}
+use Rattle.word.specs.Word.{if_then_else_, isSet, flag}
 use Rattle.records.specs.Records.{all}
 use Rattle.tables.specs.Views.{coresOf, pagesOf}
 use Rattle.tlb.specs.declared.Entry.{Entry}
@@ -18,6 +18,7 @@ use Rattle.reasons.specs.declared.Named.{Named}
 use Rattle.reasons.specs.declared.Root.{Root}
 use Rattle.reasons.specs.declared.Root.the-variants.{AtWalk, AtStore}
 use Rattle.reasons.specs.declared.Way.{Way}
+use Rattle.reasons.specs.declared.search.Want.{Want}
 use Rattle.reasons.specs.declared.Found.{Found}
 use Rattle.reasons.specs.declared.Found.the-variants.{Nothing, Lowest}
 use Rattle.reasons.specs.declared.Side.the-variants.{Group, Rest}
@@ -26,15 +27,21 @@ use Rattle.reasons.specs.declared.Reason.the-variants.{BeyondMemory, Own
 use Rattle.reasons.specs.Ways.{naming, roots, entryName, nextName, rootWay, further, onward, allFrom, coreWays, ways}
 use Rattle.reasons.specs.Why.{page, lower, lowest, grants, spoils, whyNumber}
 
--- What is looked for beside a memory of n pages and its map c. Kind 0: a page beyond memory. Kind 1: a page that the map has as a table, by a way that
--- grants write. Else: a page that the map has, by a way that grants write or comes to a table.
-unfoldable pub wanted : ℕ → ℕ → List ℕ → Named → Bool
-wanted k n c x =
-    if eqb k 0 then not (ltb (x .page) n)
+-- What is looked for beside a memory of n pages and marks c of pages: from page low on, with kind 0 a page beyond memory, with kind 1 a page that is
+-- marked, by a way that grants write, else a page that is marked, by a way that grants write or comes to a table.
+unfoldable pub wanted : Want → ℕ → List ℕ → Named → Bool
+wanted a n c x =
+    if ltb (x .page) (a .low) then false
+    else if eqb (a .kind) 0 then not (ltb (x .page) n)
     else if ltb (x .page) n then
-    (if eqb k 1 then (eqb (x .level) 0 && x .write) && eqb (getD c (x .page) 0 / 2 % 2) 1
-    else (not (eqb (x .level) 0) || x .write) && not (eqb (getD c (x .page) 0) 0))
+    (if eqb (a .kind) 1 then (eqb (x .level) 0 && x .write) && eqb (getD c (x .page) 0) 1
+    else (not (eqb (x .level) 0) || x .write) && eqb (getD c (x .page) 0) 1)
     else false
+
+-- what was found is at page p or lower
+abbrev pub isLowest : Found → ℕ → Bool
+isLowest Nothing p = false
+isLowest (Lowest v) p = leb (page v) p
 
 -- the lowest of those that are looked for
 unfoldable pub sought : (Named → Bool) → List Way → Found
@@ -77,6 +84,28 @@ blockWays m b k = flatMap (λ (r : Root). allFrom m (rootWay b k r)) (roots b)
 
 unfoldable pub memberWays : ℕ → List ℕ → List ℕ → ℕ → List Way
 memberWays g t m k = if isSet g k then coreWays t m k else []
+
+-- ---- pages at fault
+
+-- a page whose bytes in two maps are x and y: writable and a table in the first (kind 1), or in the first and writable or a table in the second
+unfoldable pub faultAt : ℕ → ℕ → ℕ → Bool
+faultAt k x y = if eqb k 1 then isSet x 1 && isSet x 2 else not (eqb x 0) && (isSet y 2 || isSet y 1)
+
+-- they are marked in s, and none is lower than page low
+pub record Faults (k : ℕ) (own other s : List ℕ) (low : ℕ) : Type 0 where
+  pub marks : (p : ℕ) → p < length s → getD s p 0 ≡ flag (faultAt k (getD own p 0) (getD other p 0))
+  pub least : (p : ℕ) → p < length s → faultAt k (getD own p 0) (getD other p 0) ≡ true → low ≤ p
+
+-- marks s have become those
+pub record Marked (k : ℕ) (own other s e : List ℕ) (low : ℕ) : Type 0 where
+  pub long : length e ≡ length s
+  pub faults : Faults k own other e low
+
+-- a way to such a page, by its kind
+unfoldable pub faulty : ℕ → ℕ → List ℕ → List ℕ → Named → Bool
+faulty k n own other x =
+    (if eqb k 1 then eqb (x .level) 0 && x .write else not (eqb (x .level) 0) || x .write)
+    && (ltb (x .page) n && faultAt k (getD own (x .page) 0) (getD other (x .page) 0))
 
 -- ---- what each reason finds
 

@@ -57,7 +57,7 @@ returns-5 : tie.Need-returns-5
 returns-5 c = let a = c .before .before .before .before .before .before .before .before .before .before .before .args in at-5 (c .before .before .before .before .before .before .before .before .before .before .before .args .group) (c .before .before .before .before .before .before .before .before .before .before .before .args .others) (now (c .before .before .before .before .before .before .before .before .before .before .before .args .t)) (now (c .before .before .before .before .before .before .before .before .before .before .before .args .m)) _ _ _ _ (c .before .before .before .before .before .before .before .before .before .before .before .pre .1) _ _ (c .before .own-table2 .ensures) (c .as-reason4 .ensures) ∙ ap (reasonAt (a .group) (now (a .t)) (now (a .m))) (sym (c .before .before .if5 .taken))
 
 touched-requires : tie.Need-touched-requires
-touched-requires c κs = let e = c .before .before .before .before .before .before .before .before .before in (e .pre .0, e .pre .1 .own-map)
+touched-requires c κs = let e = c .before .before .before .before .before .before .before .before .before in (e .pre .0, (e .pre .1 .own-map, e .pre .1 .other-map))
 
 as-reason-requires-5 : tie.Need-as-reason-requires-5
 as-reason-requires-5 c κs = search needs

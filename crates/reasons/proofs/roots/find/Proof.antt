@@ -21,7 +21,7 @@ slice-aggregate-from-cores : tie.Need-slice-aggregate-from-cores
 slice-aggregate-from-cores c = search needs
 
 from-cores-requires : tie.Need-from-cores-requires
-from-cores-requires c κs = let e = c .before .before .before .before .before in (e .pre .0, ((refl, e .pre .1, length-replicate {A = ℕ} 4096 0), blank (wanted (e .args .kind) (pagesOf (now (e .args .t))) (now (e .args .map))) (now (e .args .m)) Nothing 4096))
+from-cores-requires c κs = let e = c .before .before .before .before .before in (e .pre .0, ((refl, e .pre .1, length-replicate {A = ℕ} 4096 0), blank (wanted (e .args .want) (pagesOf (now (e .args .t))) (now (e .args .map))) (now (e .args .m)) Nothing 4096))
 
 returns : tie.Need-returns
 returns c = search needs

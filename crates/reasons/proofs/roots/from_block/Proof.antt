@@ -26,7 +26,7 @@ same-length : tie.Need-same-length
 same-length c = c .before .before .from-chain2 .ensures .long ∙ c .before .before .before .before .before .before .from-chain .ensures .long ∙ c .before .before .before .before .before .before .before .before .before .before .from-root .ensures .long
 
 returns : tie.Need-returns
-returns c = let e = c .before .before .before .before .before .before .before .before .before .before .before .before .before .before .before .before .before in block-ways (wanted (c .before .before .before .before .before .before .before .before .before .before .before .before .before .before .before .before .before .args .kind) (c .before .before .before .before .before .before .before .before .before .before .before .before .before .before .before .before .before .args .pages) (now (c .before .before .before .before .before .before .before .before .before .before .before .before .before .before .before .before .before .args .map))) (now (c .before .before .before .before .before .before .before .before .before .before .before .before .before .before .before .before .before .args .m)) (now (e .args .b)) (e .args .k) _ (c .before .before .before .before .before .before .before .before .before .before .before .before .origin .ensures) (c .before .before .before .before .before .before .before .before .before .before .from-root .ensures) (c .before .before .before .before .before .before .from-chain .ensures) (c .before .before .from-chain2 .ensures)
+returns c = let e = c .before .before .before .before .before .before .before .before .before .before .before .before .before .before .before .before .before in block-ways (wanted (c .before .before .before .before .before .before .before .before .before .before .before .before .before .before .before .before .before .args .want) (c .before .before .before .before .before .before .before .before .before .before .before .before .before .before .before .before .before .args .pages) (now (c .before .before .before .before .before .before .before .before .before .before .before .before .before .before .before .before .before .args .map))) (now (c .before .before .before .before .before .before .before .before .before .before .before .before .before .before .before .before .before .args .m)) (now (e .args .b)) (e .args .k) _ (c .before .before .before .before .before .before .before .before .before .before .before .before .origin .ensures) (c .before .before .before .before .before .before .before .before .before .before .from-root .ensures) (c .before .before .before .before .before .before .from-chain .ensures) (c .before .before .from-chain2 .ensures)
 
 pub from-block-spec : {M : Type 1} → statement M
 from-block-spec =

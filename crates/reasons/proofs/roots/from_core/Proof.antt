@@ -22,10 +22,10 @@ same-length : tie.Need-same-length
 same-length c = search needs
 
 returns : tie.Need-returns
-returns c = let a = c .before .before .before .before .before .before .before .before .before .before .before .args in core-in (wanted (c .before .before .before .before .before .before .before .before .before .before .before .args .kind) (c .before .before .before .before .before .before .before .before .before .before .before .args .pages) (now (c .before .before .before .before .before .before .before .before .before .before .before .args .map))) (now (c .before .before .before .before .before .before .before .before .before .before .before .args .m)) (a .group) (now (a .t)) _ (a .k) _ (c .before .before .before .before .before .before .shift-right .ensures) (c .before .before .before .before .before .if1 .taken) (c .before .before .before .before .block .ensures .0) (c .before .before .from-block .ensures)
+returns c = let a = c .before .before .before .before .before .before .before .before .before .before .before .args in core-in (wanted (c .before .before .before .before .before .before .before .before .before .before .before .args .want) (c .before .before .before .before .before .before .before .before .before .before .before .args .pages) (now (c .before .before .before .before .before .before .before .before .before .before .before .args .map))) (now (c .before .before .before .before .before .before .before .before .before .before .before .args .m)) (a .group) (now (a .t)) _ (a .k) _ (c .before .before .before .before .before .before .shift-right .ensures) (c .before .before .before .before .before .if1 .taken) (c .before .before .before .before .block .ensures .0) (c .before .before .from-block .ensures)
 
 returns-2 : tie.Need-returns-2
-returns-2 c = let e = c .before .before .before .before .before .before in let a = e .args in core-out (wanted (c .before .before .before .before .before .before .args .kind) (c .before .before .before .before .before .before .args .pages) (now (c .before .before .before .before .before .before .args .map))) (now (c .before .before .before .before .before .before .args .m)) _ _ (a .group) (now (a .t)) (a .k) _ (c .before .shift-right .ensures) (c .if1 .left) (e .pre .1 .1)
+returns-2 c = let e = c .before .before .before .before .before .before in let a = e .args in core-out (wanted (c .before .before .before .before .before .before .args .want) (c .before .before .before .before .before .before .args .pages) (now (c .before .before .before .before .before .before .args .map))) (now (c .before .before .before .before .before .before .args .m)) _ _ (a .group) (now (a .t)) (a .k) _ (c .before .shift-right .ensures) (c .if1 .left) (e .pre .1 .1)
 
 pub from-core-spec : {M : Type 1} → statement M
 from-core-spec =

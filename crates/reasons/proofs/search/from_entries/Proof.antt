@@ -13,10 +13,10 @@ use Rattle.reasons.proofs.search.from_entries.Statement.{statement}
 use Rattle.reasons.proofs.search.from_entries.Tie as tie
 
 abbrev Inv-loop : tie.InvT-loop
-Inv-loop m kind pages map way seen₀ start found₀ i₀ seen found i = (i ≤ 1024) × Searched (wanted kind pages map) m found₀ seen₀ found seen (flatMap (onEntry m way) (range i))
+Inv-loop m want pages map way seen₀ start found₀ i₀ seen found i = (i ≤ 1024) × Searched (wanted want pages map) m found₀ seen₀ found seen (flatMap (onEntry m way) (range i))
 
 abbrev μ-loop : tie.MeasureT-loop
-μ-loop m kind pages map way seen₀ start found₀ i₀ seen found i = 1024 - i
+μ-loop m want pages map way seen₀ start found₀ i₀ seen found i = 1024 - i
 
 cast-start : tie.Need-cast-start Inv-loop μ-loop
 cast-start c = omega arith
@@ -25,7 +25,7 @@ mul-start : tie.Need-mul-start Inv-loop μ-loop
 mul-start c = omega arith
 
 loop-holds : tie.Need-loop-holds Inv-loop μ-loop
-loop-holds c = let e = c .before .before .before .before in (omega arith, entries-start _ _ (e .pre .0 .0) (e .pre .0 .1) (wanted (c .before .before .before .before .args .kind) (c .before .before .before .before .args .pages) (now (c .before .before .before .before .args .map))) _ _ (e .args .way) (e .pre .1 .0 .0) (e .pre .1 .1))
+loop-holds c = let e = c .before .before .before .before in (omega arith, entries-start _ _ (e .pre .0 .0) (e .pre .0 .1) (wanted (c .before .before .before .before .args .want) (c .before .before .before .before .args .pages) (now (c .before .before .before .before .args .map))) _ _ (e .args .way) (e .pre .1 .0 .0) (e .pre .1 .1))
 
 cast-read-word : tie.Need-cast-read-word Inv-loop μ-loop
 cast-read-word c = omega arith
@@ -49,13 +49,13 @@ loop-less : tie.Need-loop-less Inv-loop μ-loop
 loop-less c = omega arith
 
 loop-again : tie.Need-loop-again Inv-loop μ-loop
-loop-again c = let e = c .before .before .before .before .before .before .before .before .before .before .before in let l = c .before .before .before .before .before .before .loop in (omega arith, entries-next _ _ (e .pre .0 .0) (e .pre .0 .1) (wanted (c .before .before .before .before .before .before .before .before .before .before .before .args .kind) (c .before .before .before .before .before .before .before .before .before .before .before .args .pages) (now (c .before .before .before .before .before .before .before .before .before .before .before .args .map))) _ _ (e .args .way) (e .pre .1 .0 .0) _ _ _ _ (l .i) _ (c .before .before .before .before .before .loop-test .taken) (c .before .before .before .before .read-word .ensures) (l .inv .1) (c .before .before .from-entry .ensures))
+loop-again c = let e = c .before .before .before .before .before .before .before .before .before .before .before in let l = c .before .before .before .before .before .before .loop in (omega arith, entries-next _ _ (e .pre .0 .0) (e .pre .0 .1) (wanted (c .before .before .before .before .before .before .before .before .before .before .before .args .want) (c .before .before .before .before .before .before .before .before .before .before .before .args .pages) (now (c .before .before .before .before .before .before .before .before .before .before .before .args .map))) _ _ (e .args .way) (e .pre .1 .0 .0) _ _ _ _ (l .i) _ (c .before .before .before .before .before .loop-test .taken) (c .before .before .before .before .read-word .ensures) (l .inv .1) (c .before .before .from-entry .ensures))
 
 same-length : tie.Need-same-length Inv-loop μ-loop
 same-length c = c .before .loop .inv .1 .long
 
 returns : tie.Need-returns Inv-loop μ-loop
-returns c = let e = c .before .before .before .before .before .before in let l = c .before .loop in entries-end _ _ (e .pre .0 .0) (e .pre .0 .1) (wanted (c .before .before .before .before .before .before .args .kind) (c .before .before .before .before .before .before .args .pages) (now (c .before .before .before .before .before .before .args .map))) _ _ (e .args .way) (e .pre .1 .0 .0) _ _ (l .i) (omega arith) (l .inv .1)
+returns c = let e = c .before .before .before .before .before .before in let l = c .before .loop in entries-end _ _ (e .pre .0 .0) (e .pre .0 .1) (wanted (c .before .before .before .before .before .before .args .want) (c .before .before .before .before .before .before .args .pages) (now (c .before .before .before .before .before .before .args .map))) _ _ (e .args .way) (e .pre .1 .0 .0) _ _ (l .i) (omega arith) (l .inv .1)
 
 pub from-entries-spec : {M : Type 1} → statement M
 from-entries-spec =

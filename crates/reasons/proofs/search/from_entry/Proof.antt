@@ -27,10 +27,10 @@ same-length : tie.Need-same-length
 same-length c = search needs
 
 returns : tie.Need-returns
-returns c = let e = c .before .before .before .before .before .before .before .before .before .before .before in subst (Searched (wanted (c .before .before .before .before .before .before .before .before .before .before .before .args .kind) (c .before .before .before .before .before .before .before .before .before .before .before .args .pages) (now (c .before .before .before .before .before .before .before .before .before .before .before .args .map))) (now (c .before .before .before .before .before .before .before .before .before .before .before .args .m)) _ _ _ _) (through-there (now (c .before .before .before .before .before .before .before .before .before .before .before .args .m)) (e .args .way) _ (e .args .i) (e .args .e) _ _ (c .before .before .before .before .before .before .before .present .ensures) (c .before .before .before .before .before .before .if1 .taken) (c .before .before .before .before .before .named .ensures) (c .before .before .before .before .further .ensures)) (c .before .before .from-second .ensures)
+returns c = let e = c .before .before .before .before .before .before .before .before .before .before .before in subst (Searched (wanted (c .before .before .before .before .before .before .before .before .before .before .before .args .want) (c .before .before .before .before .before .before .before .before .before .before .before .args .pages) (now (c .before .before .before .before .before .before .before .before .before .before .before .args .map))) (now (c .before .before .before .before .before .before .before .before .before .before .before .args .m)) _ _ _ _) (through-there (now (c .before .before .before .before .before .before .before .before .before .before .before .args .m)) (e .args .way) _ (e .args .i) (e .args .e) _ _ (c .before .before .before .before .before .before .before .present .ensures) (c .before .before .before .before .before .before .if1 .taken) (c .before .before .before .before .before .named .ensures) (c .before .before .before .before .further .ensures)) (c .before .before .from-second .ensures)
 
 returns-2 : tie.Need-returns-2
-returns-2 c = let e = c .before .before .before .before .before in subst (Searched (wanted (c .before .before .before .before .before .args .kind) (c .before .before .before .before .before .args .pages) (now (c .before .before .before .before .before .args .map))) (now (c .before .before .before .before .before .args .m)) _ _ _ _) (through-absent (now (c .before .before .before .before .before .args .m)) (e .args .way) (e .args .i) (e .args .e) _ (c .before .present .ensures) (c .if1 .left)) (searched-none (wanted (c .before .before .before .before .before .args .kind) (c .before .before .before .before .before .args .pages) (now (c .before .before .before .before .before .args .map))) (now (c .before .before .before .before .before .args .m)) _ _ (e .pre .1 .1))
+returns-2 c = let e = c .before .before .before .before .before in subst (Searched (wanted (c .before .before .before .before .before .args .want) (c .before .before .before .before .before .args .pages) (now (c .before .before .before .before .before .args .map))) (now (c .before .before .before .before .before .args .m)) _ _ _ _) (through-absent (now (c .before .before .before .before .before .args .m)) (e .args .way) (e .args .i) (e .args .e) _ (c .before .present .ensures) (c .if1 .left)) (searched-none (wanted (c .before .before .before .before .before .args .want) (c .before .before .before .before .before .args .pages) (now (c .before .before .before .before .before .args .map))) (now (c .before .before .before .before .before .args .m)) _ _ (e .pre .1 .1))
 
 pub from-entry-spec : {M : Type 1} → statement M
 from-entry-spec =

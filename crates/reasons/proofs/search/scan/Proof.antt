@@ -13,10 +13,10 @@ use Rattle.reasons.proofs.search.scan.Statement.{statement}
 use Rattle.reasons.proofs.search.scan.Tie as tie
 
 abbrev Inv-loop : tie.InvT-loop
-Inv-loop m kind pages map way start found₀ i₀ found i = (i ≤ 1024) × (found ≡ lower found₀ (sought (wanted kind pages map) (flatMap (entryWays m way) (range i))))
+Inv-loop m want pages map way start found₀ i₀ found i = (i ≤ 1024) × (found ≡ lower found₀ (sought (wanted want pages map) (flatMap (entryWays m way) (range i))))
 
 abbrev μ-loop : tie.MeasureT-loop
-μ-loop m kind pages map way start found₀ i₀ found i = 1024 - i
+μ-loop m want pages map way start found₀ i₀ found i = 1024 - i
 
 cast-start : tie.Need-cast-start Inv-loop μ-loop
 cast-start c = omega arith
@@ -25,7 +25,7 @@ mul-start : tie.Need-mul-start Inv-loop μ-loop
 mul-start c = omega arith
 
 loop-holds : tie.Need-loop-holds Inv-loop μ-loop
-loop-holds c = let e = c .before .before .before in (omega arith, scan-start _ _ (e .pre .0 .0) (e .pre .0 .1) (wanted (c .before .before .before .args .kind) (c .before .before .before .args .pages) (now (c .before .before .before .args .map))) _ (e .args .way) (e .pre .1 .0))
+loop-holds c = let e = c .before .before .before in (omega arith, scan-start _ _ (e .pre .0 .0) (e .pre .0 .1) (wanted (c .before .before .before .args .want) (c .before .before .before .args .pages) (now (c .before .before .before .args .map))) _ (e .args .way) (e .pre .1 .0))
 
 cast-read-word : tie.Need-cast-read-word Inv-loop μ-loop
 cast-read-word c = omega arith
@@ -49,10 +49,10 @@ loop-less : tie.Need-loop-less Inv-loop μ-loop
 loop-less c = omega arith
 
 loop-again : tie.Need-loop-again Inv-loop μ-loop
-loop-again c = let e = c .before .before .before .before .before .before .before in let l = c .before .before .before .loop in (omega arith, scan-next _ _ (e .pre .0 .0) (e .pre .0 .1) (wanted (c .before .before .before .before .before .before .before .args .kind) (c .before .before .before .before .before .before .before .args .pages) (now (c .before .before .before .before .before .before .before .args .map))) _ (e .args .way) (e .pre .1 .0) _ _ (l .i) _ (c .before .before .loop-test .taken) (c .before .read-word .ensures) (l .inv .1) (c .take-entry .ensures))
+loop-again c = let e = c .before .before .before .before .before .before .before in let l = c .before .before .before .loop in (omega arith, scan-next _ _ (e .pre .0 .0) (e .pre .0 .1) (wanted (c .before .before .before .before .before .before .before .args .want) (c .before .before .before .before .before .before .before .args .pages) (now (c .before .before .before .before .before .before .before .args .map))) _ (e .args .way) (e .pre .1 .0) _ _ (l .i) _ (c .before .before .loop-test .taken) (c .before .read-word .ensures) (l .inv .1) (c .take-entry .ensures))
 
 returns : tie.Need-returns Inv-loop μ-loop
-returns c = let e = c .before .before .before .before .before in let l = c .before .loop in scan-end _ _ (e .pre .0 .0) (e .pre .0 .1) (wanted (c .before .before .before .before .before .args .kind) (c .before .before .before .before .before .args .pages) (now (c .before .before .before .before .before .args .map))) _ (e .args .way) (e .pre .1 .0) _ (l .i) (omega arith) (l .inv .1)
+returns c = let e = c .before .before .before .before .before in let l = c .before .loop in scan-end _ _ (e .pre .0 .0) (e .pre .0 .1) (wanted (c .before .before .before .before .before .args .want) (c .before .before .before .before .before .args .pages) (now (c .before .before .before .before .before .args .map))) _ (e .args .way) (e .pre .1 .0) _ (l .i) (omega arith) (l .inv .1)
 
 pub scan-spec : {M : Type 1} → statement M
 scan-spec =

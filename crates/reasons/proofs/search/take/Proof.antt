@@ -14,10 +14,10 @@ lower-requires : tie.Need-lower-requires
 lower-requires c κs = search needs
 
 returns : tie.Need-returns
-returns c = taken (wanted (c .before .before .before .before .args .kind) (c .before .before .before .before .args .pages) (now (c .before .before .before .before .args .map))) _ _ (c .before .before .before .before .args .way) _ (c .before .before .is-wanted .ensures) (c .before .if1 .taken) (c .lower .ensures)
+returns c = taken (wanted (c .before .before .before .before .args .want) (c .before .before .before .before .args .pages) (now (c .before .before .before .before .args .map))) _ _ (c .before .before .before .before .args .way) _ (c .before .before .is-wanted .ensures) (c .before .if1 .taken) (c .lower .ensures)
 
 returns-2 : tie.Need-returns-2
-returns-2 c = left (wanted (c .before .before .before .args .kind) (c .before .before .before .args .pages) (now (c .before .before .before .args .map))) _ (c .before .before .before .args .way) _ (c .before .is-wanted .ensures) (c .if1 .left)
+returns-2 c = left (wanted (c .before .before .before .args .want) (c .before .before .before .args .pages) (now (c .before .before .before .args .map))) _ (c .before .before .before .args .way) _ (c .before .is-wanted .ensures) (c .if1 .left)
 
 pub take-spec : {M : Type 1} → statement M
 take-spec = tie.close (tie.spec is-wanted-requires lower-requires returns returns-2)
