@@ -1,12 +1,13 @@
 -- The line for a reason why a group is not apart.
 -- Assumes nothing.
 use mathlib.Core.List.{List, [], _++_}
-use Prim.Native.Nat.{ℕ, _+_, _*_, _/_, _%_}
+use Prim.Native.Nat.{ℕ, zero, suc, _+_, _*_, _/_, _%_}
 use lib.Dec.{eqb}
 use lib.ListN.{getD}
 use Rattle.word.specs.Word.{if_then_else_}
 use Rattle.io.specs.Digits.{digits}
 use Rattle.text.specs.Text.{ascii, decimal}
+use Rattle.reasons.specs.Why.{whyNumber, whyAfter, whyWords}
 use Rattle.verdict.specs.declared.reason.Way.{Way}
 
 -- the words that tell fills
@@ -70,7 +71,9 @@ reasonText n w =
     else if eqb (w .level) 0 then spoilText (ascii "the rest can write page ") (ascii ", which the group reaches: ") w
     else spoilText (ascii "the rest uses page ") (ascii " as a table, which the group reaches: ") w
 
--- lines of reasons, one after the other
-pub data Told : List ℕ → Type 0 where
-  none : Told []
-  more : {x : List ℕ} (n : ℕ) (w : Way) → Told x → Told (x ++ reasonText n w)
+-- the lines of the reasons after reason a, at most d of them
+unfoldable pub reasonLines : ℕ → ℕ → ℕ → List ℕ → List ℕ → List ℕ
+reasonLines zero a g t m = []
+reasonLines (suc d) a g t m =
+    if eqb (whyNumber (whyAfter a g t m)) 0 then []
+    else reasonText (whyNumber (whyAfter a g t m)) (wayOf (whyWords (whyAfter a g t m))) ++ reasonLines d (whyNumber (whyAfter a g t m)) g t m

@@ -9,11 +9,12 @@ ghost use mathlib.Core.Bool.{true};
 ghost use Prim.Native.Nat.{_+_, _≤_};
 ghost use lib.ListN.{length};
 ghost use Rattle.text.specs.Text.{Put};
-ghost use Rattle.tables.specs.Views.{pagesOf};
+ghost use Rattle.tables.specs.Views.{coresOf, pagesOf};
 ghost use Rattle.tables.specs.Sound.{sound};
+ghost use Rattle.reach.specs.Reach.{isGroup};
 ghost use Rattle.separation.specs.Apart.{apartOn};
+ghost use Rattle.verdict.specs.Reasons.{reasonLines};
 ghost use Rattle.verdict.specs.Report as x;
-ghost use Rattle.verdict.specs.inner.Some.{Some};
 
 // The sides and the picture, with a map for each side: at most 5,998 bytes.
 fn put_maps(
@@ -52,8 +53,8 @@ fn put_sides(out: &mut [u8], t: &[u32], m: &[u8], group: u32) -> usize
 
 // A line for each reason, of which there are at most six.
 fn put_reasons(out: &mut [u8], at: usize, t: &[u32], m: &[u8], group: u32) -> usize
-    requires { ⌜ at + 1410 ≤ length (now out) ⌝ }
-    ensures { λ r. ⌜ Some (now (out .entry)) at r (now (out .exit)) × (r ≤ at + 1368) ⌝ }
+    requires { ⌜ (sound (now t) (length (now m)) ≡ true) × (isGroup group (coresOf (now t)) ≡ true) × (at + 1410 ≤ length (now out)) ⌝ }
+    ensures { λ r. ⌜ Put (now (out .entry)) at (reasonLines 6 0 group (now (t .entry)) (now (m .entry))) r (now (out .exit)) × (r ≤ at + 1368) ⌝ }
 {
     let mut words = [0u32; 9];
     let mut after: u32 = 0;
@@ -61,10 +62,7 @@ fn put_reasons(out: &mut [u8], at: usize, t: &[u32], m: &[u8], group: u32) -> us
     let mut i: usize = 0;
     while i < 6 {
         after = reasons::tell(t, m, group, after, &mut words);
-        if after < 1 {
-            return p;
-        }
-        if 6 < after {
+        if after == 0 {
             return p;
         }
         p = crate::reason::put_reason(out, p, after, crate::reason::way_of(&words));

@@ -1,21 +1,26 @@
-use native.Mathlib.Omega.{arith}
-use borrow.Author.Needs.{needs}
-use mathlib.Core.Path.{_≡_}
+-- `verdict::report::put_reasons` meets its contract. The invariant: the lines put and those left are all of them.
+-- Assumes nothing.
+use mathlib.Core.Path.{_≡_, sym, ap}
 use Prim.Native.Nat.{_+_, _*_, _-_, _≤_}
+use native.Mathlib.Omega.{arith}
 use lib.ListN.{length}
-use Rattle.verdict.specs.inner.Some.{Some}
-use Rattle.verdict.proofs.Answers.{no-lines, more-lines}
+use denote.Ref.{now}
+use Rattle.text.proofs.Texts.{reworded}
+use Rattle.verdict.specs.Reasons.{reasonText, reasonLines}
+use Rattle.verdict.specs.inner.Left.{Left}
+use Rattle.verdict.proofs.Answers.{first-line, line-done, line-more, line-last}
+use borrow.Author.Needs.{needs}
 use Rattle.verdict.proofs.report.put_reasons.Statement.{statement}
 use Rattle.verdict.proofs.report.put_reasons.Tie as tie
 
 abbrev Inv-loop : tie.InvT-loop
-Inv-loop out₀ at t m group words₀ after₀ p₀ i₀ out words after p i = Some out₀ at p out × (i ≤ 6) × (p ≤ at + 228 * i) × (9 ≡ length words)
+Inv-loop out₀ at t m group words₀ after₀ p₀ i₀ out words after p i = Left (reasonLines 6 0 group t m) out₀ at p out (reasonLines (6 - i) after group t m) × (i ≤ 6) × (p ≤ at + 228 * i) × (9 ≡ length words)
 
 abbrev μ-loop : tie.MeasureT-loop
 μ-loop out₀ at t m group words₀ after₀ p₀ i₀ out words after p i = 6 - i
 
 loop-holds : tie.Need-loop-holds Inv-loop μ-loop
-loop-holds c = (no-lines _ _, omega arith, omega arith, search needs)
+loop-holds c = (first-line _ _ _, omega arith, omega arith, search needs)
 
 slice-aggregate-tell : tie.Need-slice-aggregate-tell Inv-loop μ-loop
 slice-aggregate-tell c = search needs
@@ -27,19 +32,13 @@ same-length : tie.Need-same-length Inv-loop μ-loop
 same-length c = c .before .before .before .before .before .loop .inv .0 .put .kept
 
 returns : tie.Need-returns Inv-loop μ-loop
-returns c = (c .before .before .before .before .before .loop .inv .0, omega arith)
-
-same-length-2 : tie.Need-same-length-2 Inv-loop μ-loop
-same-length-2 c = c .before .before .before .before .before .before .loop .inv .0 .put .kept
-
-returns-2 : tie.Need-returns-2 Inv-loop μ-loop
-returns-2 c = (c .before .before .before .before .before .before .loop .inv .0, omega arith)
+returns c = let l = c .before .before .before .before .before .loop in (line-done (c .before .before .before .before .before .before .before .before .before .args .group) (now (c .before .before .before .before .before .before .before .before .before .args .t)) (now (c .before .before .before .before .before .before .before .before .before .args .m)) (c .before .before .before .before .before .before .before .before .before .pre .0) (c .before .before .before .before .before .before .before .before .before .pre .1) (l .i) (l .after) _ (l .words) _ (c .before .before .before .before .loop-test .taken) (sym (l .inv .3)) (c .before .before .tell .ensures .0) (c .before .before .tell .ensures .1) (c .if1 .taken) (l .inv .0), omega arith)
 
 way-of-requires : tie.Need-way-of-requires Inv-loop μ-loop
 way-of-requires c κs = search needs
 
 put-reason-requires : tie.Need-put-reason-requires Inv-loop μ-loop
-put-reason-requires c κs = omega (arith, c .before .before .before .before .before .before .before .before .before .loop .inv .0 .put .kept)
+put-reason-requires c κs = let l = c .before .before .before .before .before .before .before .before .loop in omega (arith, l .inv .0 .put .kept, l .inv .2)
 
 add-i : tie.Need-add-i Inv-loop μ-loop
 add-i c = search needs
@@ -48,13 +47,13 @@ loop-less : tie.Need-loop-less Inv-loop μ-loop
 loop-less c = search needs
 
 loop-again : tie.Need-loop-again Inv-loop μ-loop
-loop-again c = (more-lines _ _ (c .before .before .before .before .before .before .before .before .before .before .before .before .loop .inv .0) (c .before .before .put-reason .ensures .0), omega arith, omega (arith, c .before .before .put-reason .ensures .1), search needs)
+loop-again c = let l = c .before .before .before .before .before .before .before .before .before .before .before .loop in (line-more (c .before .before .before .before .before .before .before .before .before .before .before .before .before .before .before .args .group) (now (c .before .before .before .before .before .before .before .before .before .before .before .before .before .before .before .args .t)) (now (c .before .before .before .before .before .before .before .before .before .before .before .before .before .before .before .args .m)) (c .before .before .before .before .before .before .before .before .before .before .before .before .before .before .before .pre .0) (c .before .before .before .before .before .before .before .before .before .before .before .before .before .before .before .pre .1) (l .i) (l .after) _ (l .words) _ (c .before .before .before .before .before .before .before .before .before .before .loop-test .taken) (sym (l .inv .3)) (c .before .before .before .before .before .before .before .before .tell .ensures .0) (c .before .before .before .before .before .before .before .before .tell .ensures .1) (c .before .before .before .before .before .before .if1 .left) (l .inv .0) (reworded (ap (reasonText _) (c .before .before .before .way-of .ensures)) (c .before .before .put-reason .ensures .0)), omega arith, omega (arith, c .before .before .put-reason .ensures .1), search needs)
 
-same-length-3 : tie.Need-same-length-3 Inv-loop μ-loop
-same-length-3 c = c .before .loop .inv .0 .put .kept
+same-length-2 : tie.Need-same-length-2 Inv-loop μ-loop
+same-length-2 c = c .before .loop .inv .0 .put .kept
 
-returns-3 : tie.Need-returns-3 Inv-loop μ-loop
-returns-3 c = (c .before .loop .inv .0, omega arith)
+returns-2 : tie.Need-returns-2 Inv-loop μ-loop
+returns-2 c = let l = c .before .loop in (line-last (c .before .before .before .before .before .args .group) (now (c .before .before .before .before .before .args .t)) (now (c .before .before .before .before .before .args .m)) (c .before .before .before .before .before .pre .0) (c .before .before .before .before .before .pre .1) (l .i) (l .after) (c .loop-test .left) (l .inv .0), omega arith)
 
 pub put-reasons-spec : {M : Type 1} → statement M
 put-reasons-spec =
@@ -67,12 +66,10 @@ put-reasons-spec =
     tell-requires
     same-length
     returns
-    same-length-2
-    returns-2
     way-of-requires
     put-reason-requires
     add-i
     loop-less
     loop-again
-    same-length-3
-    returns-3)
+    same-length-2
+    returns-2)

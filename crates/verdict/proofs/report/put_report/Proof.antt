@@ -1,7 +1,7 @@
 use native.Mathlib.Omega.{arith}
 use mathlib.Core.Path.{sym, _∙_}
 use Rattle.text.proofs.Texts.{follow}
-use Rattle.verdict.proofs.Answers.{sound-yes, sound-no, answered-refused, answered-yes, answered-no}
+use Rattle.verdict.proofs.Answers.{sound-yes, sound-no, group-no, answered-refused, answered-yes, answered-no}
 use borrow.Author.Needs.{needs}
 use Rattle.verdict.proofs.report.put_report.Statement.{statement}
 use Rattle.verdict.proofs.report.put_report.Tie as tie
@@ -34,7 +34,7 @@ put-sides-requires-2 : tie.Need-put-sides-requires-2
 put-sides-requires-2 c κs = (sound-no _ _ _ (sym (c .before .before .before .apart .ensures .0) ∙ c .before .enum-told2 .given .1), omega (c .before .before .before .before .before .before .before .pre, arith))
 
 put-reasons-requires : tie.Need-put-reasons-requires
-put-reasons-requires c κs = search needs
+put-reasons-requires c κs = let e = sym (c .before .before .before .before .before .before .before .apart .ensures .0) ∙ c .before .before .before .before .before .enum-told2 .given .1 in (sound-no _ _ _ e, group-no _ _ _ e, omega (arith, c .before .before .before .before .before .before .before .before .before .before .before .pre, c .before .before .before .put-sides2 .ensures .1, c .before .before .before .put-sides2 .ensures .0 .kept))
 
 slice-aggregate-put-2 : tie.Need-slice-aggregate-put-2
 slice-aggregate-put-2 c = search needs
