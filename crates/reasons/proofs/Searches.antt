@@ -31,7 +31,7 @@ use Rattle.reasons.specs.declared.Found.the-variants.{Nothing, Lowest}
 use Rattle.reasons.specs.declared.search.Want.{Want}
 use Rattle.reasons.specs.Ways.{naming, entryName, nextName, further, nextWays, onward, allFrom}
 use Rattle.reasons.specs.Why.{page, lower, lowest}
-use Rattle.reasons.specs.inner.Search.{wanted, isLowest, sought, tableNames, notLower, Known, Searched, throughEntry}
+use Rattle.reasons.specs.inner.Search.{wanted, isLowest, hits, sought, tableNames, notLower, Known, Searched, throughEntry}
 use Rattle.reasons.proofs.Lists.{select-join, select-map, map-flatMap, flat-flat, flatMap-where, all-map}
 
 -- ---- what is looked for
@@ -137,26 +137,37 @@ module _ (P : Named → Bool) where
   unfolding lower
   left f w t p q = sym (ap (lower f) (sought-not w (sym p ∙ q)) ∙ lower-none f)
 
-  -- an entry that is present, and one that is not
-  module _ (f : Found) (w : Way) (i e : ℕ) (t : Bool) (p : t ≡ pteP e) where
+  pub hit-there : (l e : ℕ) (t r : Bool) (x : Named) → t ≡ pteP e → t ≡ true → x ≡ naming (l - 1) (pteBa e) (grantsWrite (pteR e)) → r ≡ P x → r ≡ hits P l e
+  unfolding hits
+  hit-there l e t r x p q z u = let h : pteP e ≡ true = sym p ∙ q in rw h (u ∙ ap P z)
+
+  pub hit-absent : (l e : ℕ) (t : Bool) → t ≡ pteP e → t ≡ false → false ≡ hits P l e
+  unfolding hits
+  hit-absent l e t p q = let h : pteP e ≡ false = sym p ∙ q in rw h refl
+
+  -- an entry that is looked for, and one that is not
+  module _ (w : Way) (i e : ℕ) where
     abbrev through : List Way
     through = map (further w i) (entryName (w .names) (Word e))
 
-    pub entry-there : t ≡ true → through ≡ further w i (naming (w .names .level - 1) (pteBa e) (grantsWrite (pteR e))) ∷ []
-    entry-there q = let h : pteP e ≡ true = sym p ∙ q in rw h refl
+    abbrev named : Named
+    named = naming (w .names .level - 1) (pteBa e) (grantsWrite (pteR e))
 
-    pub entry-absent : t ≡ false → through ≡ []
-    entry-absent q = let h : pteP e ≡ false = sym p ∙ q in rw h refl
+    pub hit-taken : (f g : Found) (b : Bool) → b ≡ hits P (w .names .level) e → b ≡ true → g ≡ lower f (Lowest (further w i named)) → g ≡ lower f (sought P through)
+    unfolding hits
+    hit-taken f g b p q z = go (pteP e) (sym p ∙ q)
+      where
+        go : (t : Bool) → (if t then P named else false) ≡ true → g ≡ lower f (sought P (map (further w i) (if t then named ∷ [] else [])))
+        go true h = z ∙ ap (lower f) (sym (sought-one (further w i named) h))
+        go false h = absurd (false≢true h)
 
-    pub absent-left : t ≡ false → f ≡ lower f (sought P through)
-    absent-left q = sym (ap (λ (l : List Way). lower f (sought P l)) (entry-absent q) ∙ ap (lower f) sought-none ∙ lower-none f)
-
-    pub there-left : (x : Named) (s : Bool) → t ≡ true → x ≡ naming (w .names .level - 1) (pteBa e) (grantsWrite (pteR e)) → s ≡ P x → s ≡ false → f ≡ lower f (sought P through)
-    there-left x s q z u v = left f (further w i x) s u v ∙ ap (λ (l : List Way). lower f (sought P l)) (sym (entry-there q ∙ ap (λ (y : Named). further w i y ∷ []) (sym z)))
-
-    pub there-taken : (x : Named) (s : Bool) (v : Way) (g : Found) → t ≡ true → x ≡ naming (w .names .level - 1) (pteBa e) (grantsWrite (pteR e)) → s ≡ P x → s ≡ true
-        → v ≡ further w i x → g ≡ lower f (Lowest v) → g ≡ lower f (sought P through)
-    there-taken x s v g q z u y a b = taken f g (further w i x) s u y (b ∙ ap (λ (o : Way). lower f (Lowest o)) a) ∙ ap (λ (l : List Way). lower f (sought P l)) (sym (entry-there q ∙ ap (λ (o : Named). further w i o ∷ []) (sym z)))
+    pub hit-left : (f : Found) (b : Bool) → b ≡ hits P (w .names .level) e → b ≡ false → f ≡ lower f (sought P through)
+    unfolding hits
+    hit-left f b p q = go (pteP e) (sym p ∙ q)
+      where
+        go : (t : Bool) → (if t then P named else false) ≡ false → f ≡ lower f (sought P (map (further w i) (if t then named ∷ [] else [])))
+        go true h = sym (ap (lower f) (sought-not (further w i named) h) ∙ lower-none f)
+        go false h = sym (ap (lower f) sought-none ∙ lower-none f)
 
 -- ---- one entry more, by the words that the code writes
 

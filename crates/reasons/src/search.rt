@@ -5,7 +5,6 @@ use super::Named;
 use super::Way;
 ghost use mathlib.Core.Path.{_≡_};
 ghost use mathlib.Core.List.{[], _∷_, flatMap};
-ghost use mathlib.Core.List as lists;
 ghost use Prim.Native.Nat.{_+_, _-_, _*_, _%_, _^_, _<_, _≤_};
 ghost use lib.ListN.{length};
 ghost use Rattle.tlb.specs.declared.Entry.{Entry};
@@ -121,32 +120,40 @@ fn further(way: Way, i: u32, names: Named) -> Way
     }
 }
 
-// The way that goes on by entry i, whose word is e.
-fn take_entry(want: Want, pages: u32, map: &[u8], way: Way, i: u32, e: u32, best: Found) -> Found
-    requires { ⌜ (length (now map) ≡ pages) × (way .entries < 2) × (1 ≤ way .names .level) × (i < 1024) ⌝ }
-    ensures { λ r. ⌜ r ≡ x.lower best (y.sought (y.wanted want pages (now (map .entry))) (lists.map (w.further way i) (w.entryName (way .names) (Entry.Word e)))) ⌝ }
+// Whether an entry of a table of this level names a page that is looked for.
+fn is_hit(want: Want, pages: u32, map: &[u8], level: u32, e: u32) -> bool
+    requires { ⌜ (length (now map) ≡ pages) × (1 ≤ level) ⌝ }
+    ensures { λ r. ⌜ r ≡ y.hits (y.wanted want pages (now (map .entry))) level e ⌝ }
 {
     if tlb::present(e) {
-        let names = named(way.names.level, e);
-        if is_wanted(want, pages, map, names) {
-            return lower(best, further(way, i, names));
-        }
+        return is_wanted(want, pages, map, named(level, e));
     }
-    best
+    false
 }
 
-// The ways that go on by one entry of a table.
+// The way that goes on by entry i, whose word is e.
+fn take_entry(way: Way, i: u32, e: u32, best: Found) -> Found
+    requires { ⌜ (way .entries < 2) × (1 ≤ way .names .level) × (i < 1024) ⌝ }
+    ensures { λ r. ⌜ r ≡ x.lower best (Found.Lowest (w.further way i (w.naming (way .names .level - 1) (pteBa e) (grantsWrite (pteR e))))) ⌝ }
+{
+    lower(best, further(way, i, named(way.names.level, e)))
+}
+
+// The ways that go on by one entry of a table. (An entry that is not looked for costs no copy of a way.)
 fn scan(m: &[u8], want: Want, pages: u32, map: &[u8], way: Way, best: Found) -> Found
     requires { ⌜ (length (now m) ≡ 4096 * pages) × (pages ≤ 4096) × (length (now map) ≡ pages) ⌝ }
     requires { ⌜ (way .names .page % 2 ^ 20 < pages) × (way .entries < 2) × (1 ≤ way .names .level) ⌝ }
     ensures { λ r. ⌜ r ≡ x.lower best (y.sought (y.wanted want pages (now (map .entry))) (w.nextWays (now (m .entry)) way)) ⌝ }
 {
     let start = 4096 * ((way.names.page % 0x100000) as usize);
+    let level = way.names.level;
     let mut found = best;
     let mut i: u32 = 0;
     while i < 1024 {
         let e = word::read_word(m, start + 4 * (i as usize));
-        found = take_entry(want, pages, map, way, i, e, found);
+        if is_hit(want, pages, map, level, e) {
+            found = take_entry(way, i, e, found);
+        }
         i += 1;
     }
     found

@@ -4,15 +4,16 @@
 use mathlib.Core.Path.{_≡_}
 use mathlib.Core.Bool.{Bool, true, false, _&&_, _||_, not}
 use mathlib.Core.List.{List, [], map, flatMap}
-use Prim.Native.Nat.{ℕ, _<_, _≤_}
+use Prim.Native.Nat.{ℕ, _-_, _<_, _≤_}
 use lib.Dec.{eqb, ltb, leb}
 use lib.ListN.{length, getD}
 use Rattle.word.specs.Word.{if_then_else_, isSet, flag}
 use Rattle.records.specs.Records.{all}
 use Rattle.tables.specs.Views.{coresOf, pagesOf}
 use Rattle.tlb.specs.declared.Entry.{Entry}
+use Rattle.tlb.specs.Walks.{pteP, pteR, pteBa}
 use Rattle.reach.specs.Lists.{range, has, select}
-use Rattle.reach.specs.Reach.{members, reach, tablePages, reached, inMemory, mapFor}
+use Rattle.reach.specs.Reach.{members, grantsWrite, reach, tablePages, reached, inMemory, mapFor}
 use Rattle.separation.specs.Apart.{rest}
 use Rattle.reasons.specs.declared.Named.{Named}
 use Rattle.reasons.specs.declared.Root.{Root}
@@ -42,6 +43,10 @@ wanted a n c x =
 abbrev pub isLowest : Found → ℕ → Bool
 isLowest Nothing p = false
 isLowest (Lowest v) p = leb (page v) p
+
+-- an entry e of a table of level l names a page that is looked for
+unfoldable pub hits : (Named → Bool) → ℕ → ℕ → Bool
+hits P l e = if pteP e then P (naming (l - 1) (pteBa e) (grantsWrite (pteR e))) else false
 
 -- the lowest of those that are looked for
 unfoldable pub sought : (Named → Bool) → List Way → Found

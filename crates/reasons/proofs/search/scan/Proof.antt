@@ -1,6 +1,7 @@
 -- `reasons::search::scan` meets its contract. The invariant: what is found is the lowest of the ways by the entries below i.
 -- Assumes nothing.
-use mathlib.Core.Path.{_≡_}
+use mathlib.Core.Path.{_≡_, _∙_}
+use mathlib.Core.Logic.{⊎-elim}
 use mathlib.Core.List.{flatMap}
 use Prim.Native.Nat.{_-_, _≤_}
 use native.Mathlib.Omega.{arith}
@@ -8,15 +9,15 @@ use denote.Ref.{now}
 use Rattle.reach.specs.Lists.{range}
 use Rattle.reasons.specs.Why.{lower}
 use Rattle.reasons.specs.inner.Search.{wanted, sought}
-use Rattle.reasons.proofs.Searches.{entryWays, scan-start, scan-next, scan-end}
+use Rattle.reasons.proofs.Searches.{hit-taken, hit-left, entryWays, scan-start, scan-next, scan-end}
 use Rattle.reasons.proofs.search.scan.Statement.{statement}
 use Rattle.reasons.proofs.search.scan.Tie as tie
 
 abbrev Inv-loop : tie.InvT-loop
-Inv-loop m want pages map way start found₀ i₀ found i = (i ≤ 1024) × (found ≡ lower found₀ (sought (wanted want pages map) (flatMap (entryWays m way) (range i))))
+Inv-loop m want pages map way start level found₀ i₀ found i = (i ≤ 1024) × (found ≡ lower found₀ (sought (wanted want pages map) (flatMap (entryWays m way) (range i))))
 
 abbrev μ-loop : tie.MeasureT-loop
-μ-loop m want pages map way start found₀ i₀ found i = 1024 - i
+μ-loop m want pages map way start level found₀ i₀ found i = 1024 - i
 
 cast-start : tie.Need-cast-start Inv-loop μ-loop
 cast-start c = omega arith
@@ -39,8 +40,11 @@ add-read-word c = omega arith
 read-word-requires : tie.Need-read-word-requires Inv-loop μ-loop
 read-word-requires c κs = omega arith
 
+is-hit-requires : tie.Need-is-hit-requires Inv-loop μ-loop
+is-hit-requires c κs = let e = c .before .before .before .before .before .before in (e .pre .0 .2, e .pre .1 .2)
+
 take-entry-requires : tie.Need-take-entry-requires Inv-loop μ-loop
-take-entry-requires c κs = let e = c .before .before .before .before .before .before in (e .pre .0 .2, e .pre .1 .1, e .pre .1 .2, c .before .loop-test .taken)
+take-entry-requires c κs = let e = c .before .before .before .before .before .before .before .before in (e .pre .1 .1, e .pre .1 .2, c .before .before .before .loop-test .taken)
 
 add-i : tie.Need-add-i Inv-loop μ-loop
 add-i c = omega arith
@@ -49,7 +53,7 @@ loop-less : tie.Need-loop-less Inv-loop μ-loop
 loop-less c = omega arith
 
 loop-again : tie.Need-loop-again Inv-loop μ-loop
-loop-again c = let e = c .before .before .before .before .before .before .before in let l = c .before .before .before .loop in (omega arith, scan-next _ _ (e .pre .0 .0) (e .pre .0 .1) (wanted (c .before .before .before .before .before .before .before .args .want) (c .before .before .before .before .before .before .before .args .pages) (now (c .before .before .before .before .before .before .before .args .map))) _ (e .args .way) (e .pre .1 .0) _ _ (l .i) _ (c .before .before .loop-test .taken) (c .before .read-word .ensures) (l .inv .1) (c .take-entry .ensures))
+loop-again c = let e = c .before .before .before .before .before .before .before .before in let l = c .before .before .before .before .loop in let v = c .before .before .read-word .result in (omega arith, scan-next _ _ (e .pre .0 .0) (e .pre .0 .1) (wanted (c .before .before .before .before .before .before .before .before .args .want) (c .before .before .before .before .before .before .before .before .args .pages) (now (c .before .before .before .before .before .before .before .before .args .map))) _ (e .args .way) (e .pre .1 .0) _ _ (l .i) v (c .before .before .before .loop-test .taken) (c .before .before .read-word .ensures) (l .inv .1) (⊎-elim (λ w. hit-taken (wanted (c .before .before .before .before .before .before .before .before .args .want) (c .before .before .before .before .before .before .before .before .args .pages) (now (c .before .before .before .before .before .before .before .before .args .map))) (e .args .way) (l .i) v (l .found) _ _ (c .before .is-hit .ensures) (w .0 .taken) (w .2 ∙ w .1 .ensures)) (λ w. w .1 ∙ hit-left (wanted (c .before .before .before .before .before .before .before .before .args .want) (c .before .before .before .before .before .before .before .before .args .pages) (now (c .before .before .before .before .before .before .before .before .args .map))) (e .args .way) (l .i) v (l .found) _ (c .before .is-hit .ensures) (w .0 .left)) (c .if1 .came)))
 
 returns : tie.Need-returns Inv-loop μ-loop
 returns c = let e = c .before .before .before .before .before in let l = c .before .loop in scan-end _ _ (e .pre .0 .0) (e .pre .0 .1) (wanted (c .before .before .before .before .before .args .want) (c .before .before .before .before .before .args .pages) (now (c .before .before .before .before .before .args .map))) _ (e .args .way) (e .pre .1 .0) _ (l .i) (omega arith) (l .inv .1)
@@ -67,6 +71,7 @@ scan-spec =
     mul-read-word
     add-read-word
     read-word-requires
+    is-hit-requires
     take-entry-requires
     add-i
     loop-less
