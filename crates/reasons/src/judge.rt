@@ -210,7 +210,7 @@ fn reason_at(
 }
 
 // Whether an answer is no reason.
-fn is_none(a: Reason) -> bool
+pub fn is_none(a: Reason) -> bool
     ensures { λ r. ⌜ r ≡ y.isNone a ⌝ }
 {
     match a {
@@ -224,7 +224,7 @@ fn is_none(a: Reason) -> bool
 }
 
 // The first reason after reason `after`.
-fn first_after(
+pub fn first_after(
     t: &[u32],
     m: &[u8],
     group: u32,

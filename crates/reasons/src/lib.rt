@@ -1,8 +1,8 @@
 // Reason a group is not apart (specs/Why.antt), with what holds of the answer (specs/Grounds.antt), proved in proofs/.
-mod judge;
+pub mod judge;
 mod roots;
 mod search;
-mod words;
+pub mod words;
 
 use layout::CORES;
 ghost use mathlib.Core.Path.{_≡_};

@@ -59,7 +59,7 @@ fn put_core(words: &mut [u32], k: u32)
 }
 
 // Writes an answer.
-pub(crate) fn put(words: &mut [u32], a: Reason)
+pub fn put(words: &mut [u32], a: Reason)
     requires { ⌜ length (now words) ≡ 9 ⌝ }
     ensures { λ _. ⌜ now (words .exit) ≡ x.whyWords a ⌝ }
 {

@@ -1,4 +1,4 @@
--- Laws of the report: lines after lines, and what the verdict says of the tables.
+-- Laws of the report: lines after lines, and what is said of each verdict.
 -- Assumes nothing.
 use mathlib.Core.Path.{_≡_, refl, sym, ap, _∙_, subst}
 use mathlib.Core.Bool.{Bool, true, false, not}
@@ -8,16 +8,20 @@ use Prim.Native.Nat.{ℕ, suc, _+_, _-_, _<_, _≤_}
 use native.Mathlib.Omega.{arith}
 use lib.ListN.{length}
 use borrow.Author.Tests.{eq-eqb, ne-eqb}
+use Rattle.word.specs.Word.{if_then_else_}
 use Rattle.text.specs.Text.{Put, ascii}
 use Rattle.text.proofs.Texts.{follow, reworded}
 use Rattle.tables.specs.Views.{coresOf}
 use Rattle.tables.specs.Sound.{sound}
 use Rattle.reach.specs.Reach.{isGroup, members, mapFor}
-use Rattle.separation.specs.Apart.{rest, apartOn}
+use Rattle.separation.specs.Apart.{rest, apart, apartOn}
 use Rattle.separation.specs.declared.Verdict.{Verdict}
 use Rattle.separation.specs.declared.Verdict.the-variants.{No, Yes, Refused}
-use Rattle.separation.proofs.Deciding.{says-4, says-13}
-use Rattle.reasons.specs.Why.{whyNumber, whyAfter, whyWords, Told, told}
+use Rattle.reasons.specs.declared.Reason.{Reason}
+use Rattle.reasons.specs.Why.{whyNumber, firstAfter, whyAfter, whyWords}
+use Rattle.reasons.specs.inner.Search.{isNone}
+use Rattle.reasons.proofs.None.{no-reason}
+use Rattle.reasons.proofs.Telling.{judged}
 use Rattle.verdict.specs.Reasons.{wayOf, reasonText, reasonLines}
 use Rattle.verdict.specs.Wrong.{refusedText}
 use Rattle.verdict.specs.Report.{shownSides, sidesText, Answered}
@@ -26,12 +30,6 @@ use Rattle.verdict.proofs.Marks.{nothing}
 
 -- ---- reasons, line by line
 
--- what tell answers on sound tables, of a group, with nine words
-told-is : (a g : ℕ) (t m o : List ℕ) → sound t (length m) ≡ true → isGroup g (coresOf t) ≡ true → length o ≡ 9
-    → told a g t m o ≡ record { number = whyNumber (whyAfter a g t m); words = whyWords (whyAfter a g t m) }
-unfolding told
-told-is a g t m o s i l = rw (s, eq-eqb (length o) 9 l, i) refl
-
 pub first-line : (whole b : List ℕ) (at : ℕ) → Left whole b at at b whole
 first-line whole b at = record { text = []; put = nothing b at; parts = refl }
 
@@ -39,40 +37,48 @@ pub all-lines : {whole b : List ℕ} {at r : ℕ} {c left : List ℕ} → left �
 all-lines {whole} {b} {at} {r} {c} {left} e l = reworded (sym (append-nil (l .text)) ∙ ap (λ (x : List ℕ). l .text ++ x) (sym e) ∙ l .parts) (l .put)
 
 module _ (g : ℕ) (t m : List ℕ) (s : sound t (length m) ≡ true) (i : isGroup g (coresOf t) ≡ true) where
-  -- the reason after a, by its number n and its words w
-  module _ (d a n : ℕ) (o w : List ℕ) (l : length o ≡ 9) (p : n ≡ told a g t m o .number) (q : w ≡ told a g t m o .words) where
-    number-is : n ≡ whyNumber (whyAfter a g t m)
-    number-is = p ∙ ap (λ (z : Told). z .number) (told-is a g t m o s i l)
+  after-is : (a : ℕ) (r : Reason) → r ≡ firstAfter g t m (6 - a) a → whyAfter a g t m ≡ r
+  after-is a r e = judged a g t m m s i ∙ sym e
 
-    words-are : w ≡ whyWords (whyAfter a g t m)
-    words-are = q ∙ ap (λ (z : Told). z .words) (told-is a g t m o s i l)
-
-    pub no-line : n ≡ 0 → reasonLines (suc d) a g t m ≡ []
+  -- the reason r after a, by its number n
+  module _ (d a n : ℕ) (r : Reason) (e : r ≡ firstAfter g t m (6 - a) a) (p : n ≡ whyNumber r) where
+    no-line : n ≡ 0 → reasonLines (suc d) a g t m ≡ []
     unfolding reasonLines
-    no-line z = rw (eq-eqb (whyNumber (whyAfter a g t m)) 0 (sym number-is ∙ z)) refl
+    no-line z = rw (after-is a r e, eq-eqb (whyNumber r) 0 (sym p ∙ z)) refl
 
-    pub next-line : n ≢ 0 → reasonLines (suc d) a g t m ≡ reasonText n (wayOf w) ++ reasonLines d n g t m
+    next-line : (w : List ℕ) → w ≡ whyWords r → n ≢ 0 → reasonLines (suc d) a g t m ≡ reasonText n (wayOf w) ++ reasonLines d n g t m
     unfolding reasonLines
-    next-line z = rw (ne-eqb (whyNumber (whyAfter a g t m)) 0 (λ e. z (number-is ∙ e)), number-is, words-are) refl
+    next-line w q z = rw (after-is a r e, ne-eqb (whyNumber r) 0 (λ u. z (p ∙ u)), p, q) refl
 
-  pub line-done : (k a n : ℕ) (o w : List ℕ) → k < 6 → length o ≡ 9 → n ≡ told a g t m o .number → w ≡ told a g t m o .words → n ≡ 0
-      → {whole b : List ℕ} {at r : ℕ} {c : List ℕ} → Left whole b at r c (reasonLines (6 - k) a g t m) → Put b at whole r c
-  line-done k a n o w h l p q z L = let e : 6 - k ≡ suc (6 - (k + 1)) = omega arith in all-lines (ap (λ (d : ℕ). reasonLines d a g t m) e ∙ no-line (6 - (k + 1)) a n o w l p q z) L
+  module _ (k a n : ℕ) (r : Reason) (e : r ≡ firstAfter g t m (6 - a) a) (p : n ≡ whyNumber r) (h : k < 6) {whole b : List ℕ} {at u : ℕ} {c : List ℕ} (L : Left whole b at u c (reasonLines (6 - k) a g t m)) where
+    left : 6 - k ≡ suc (6 - (k + 1))
+    left = omega arith
 
-  pub line-more : (k a n : ℕ) (o w : List ℕ) → k < 6 → length o ≡ 9 → n ≡ told a g t m o .number → w ≡ told a g t m o .words → n ≢ 0
-      → {whole b : List ℕ} {at r : ℕ} {c : List ℕ} {u : ℕ} {d : List ℕ} → Left whole b at r c (reasonLines (6 - k) a g t m) → Put c r (reasonText n (wayOf w)) u d → Left whole b at u d (reasonLines (6 - (k + 1)) n g t m)
-  line-more k a n o w h l p q z L P =
-      let e : 6 - k ≡ suc (6 - (k + 1)) = omega arith in
-      let f = ap (λ (d : ℕ). reasonLines d a g t m) e ∙ next-line (6 - (k + 1)) a n o w l p q z in
-      record {
-        text = L .text ++ reasonText n (wayOf w);
-        put = follow (L .put) P;
-        parts = append-assoc (L .text) (reasonText n (wayOf w)) (reasonLines (6 - (k + 1)) n g t m) ∙ ap (λ (x : List ℕ). L .text ++ x) (sym f) ∙ L .parts;
-      }
+    pub line-done : n ≡ 0 → Put b at whole u c
+    line-done z = all-lines (ap (λ (d : ℕ). reasonLines d a g t m) left ∙ no-line (6 - (k + 1)) a n r e p z) L
+
+    pub line-more : (w : List ℕ) → w ≡ whyWords r → n ≢ 0 → {v : ℕ} {d : List ℕ} → Put c u (reasonText n (wayOf w)) v d → Left whole b at v d (reasonLines (6 - (k + 1)) n g t m)
+    line-more w q z P =
+        record {
+          text = L .text ++ reasonText n (wayOf w);
+          put = follow (L .put) P;
+          parts = append-assoc (L .text) (reasonText n (wayOf w)) (reasonLines (6 - (k + 1)) n g t m) ∙ ap (λ (x : List ℕ). L .text ++ x) (sym (ap (λ (d : ℕ). reasonLines d a g t m) left ∙ next-line (6 - (k + 1)) a n r e p w q z)) ∙ L .parts;
+        }
 
   pub line-last : (k a : ℕ) → 6 ≤ k → {whole b : List ℕ} {at r : ℕ} {c : List ℕ} → Left whole b at r c (reasonLines (6 - k) a g t m) → Put b at whole r c
   unfolding reasonLines
   line-last k a h L = let e : 6 - k ≡ 0 = omega arith in all-lines (ap (λ (d : ℕ). reasonLines d a g t m) e) L
+
+  -- the verdict by the first reason
+  verdict-is : (r : Reason) (b : Bool) → r ≡ firstAfter g t m 6 0 → b ≡ isNone r → apartOn g t m ≡ (if b then Yes else No)
+  unfolding apartOn
+  verdict-is r b e p = let q : apart g t m ≡ b = sym (no-reason g t m) ∙ ap isNone (sym e) ∙ sym p in rw (s, i, q) refl
+
+  pub verdict-yes : (r : Reason) (b : Bool) → r ≡ firstAfter g t m 6 0 → b ≡ isNone r → b ≡ true → apartOn g t m ≡ Yes
+  verdict-yes r b e p z = verdict-is r b e p ∙ rw z refl
+
+  pub verdict-no : (r : Reason) (b : Bool) → r ≡ firstAfter g t m 6 0 → b ≡ isNone r → b ≡ false → apartOn g t m ≡ No
+  verdict-no r b e p z = verdict-is r b e p ∙ rw z refl
 
 -- ---- the sides, with the maps that were filled
 
@@ -89,21 +95,9 @@ module _ (g r : ℕ) (t m own other : List ℕ) (e : own ≡ mapFor (members g (
       ∙ ap (λ (x : List ℕ). shownSides G x (mapFor G t m) other) f
       ∙ ap (λ (x : List ℕ). shownSides G (rest g t) (mapFor G t m) x) h) p
 
--- ---- a verdict that is no refusal is on sound tables
-
-decided : {n : ℕ} (s : Bool) (v : Verdict) → (s ≡ false → Refused n ≡ v) → (Refused n ≡ v → ⊥) → s ≡ true
-decided true v f n = refl
-decided false v f n = absurd (n (f refl))
+-- ---- what is said of each verdict
 
 module _ (g : ℕ) (t m : List ℕ) where
-  pub sound-yes : apartOn g t m ≡ Yes → sound t (length m) ≡ true
-  sound-yes e = decided (sound t (length m)) (apartOn g t m) (says-4 t m g) (λ q. let z : _≡_ {A = ℕ} 0 1 = cc in omega arith)
-
-  pub sound-no : apartOn g t m ≡ No → sound t (length m) ≡ true
-  sound-no e = decided (sound t (length m)) (apartOn g t m) (says-4 t m g) (λ q. let z : _≡_ {A = ℕ} 0 1 = cc in omega arith)
-
-  -- ---- what is said of each
-
   pub answered-yes :
       {b : List ℕ} {r : ℕ} {c : List ℕ} → apartOn g t m ≡ Yes → Put b 0 (sidesText g t m ++ ascii "apart\n") r c → Answered (apartOn g t m) b g t m r c
   unfolding Answered
@@ -114,9 +108,6 @@ module _ (g : ℕ) (t m : List ℕ) where
       → Put c p (reasonLines 6 0 g t m) q d → Put d q (ascii "not apart\n") r f → Answered (apartOn g t m) b g t m r f
   unfolding Answered
   answered-no {b} {p} {c} {q} {d} {r} {f} e x y z = subst (λ (v : Verdict). Answered v b g t m r f) (sym e) (follow (follow x y) z)
-
-  pub group-no : apartOn g t m ≡ No → isGroup g (coresOf t) ≡ true
-  group-no e = decided (isGroup g (coresOf t)) (apartOn g t m) (λ h. says-13 t m g (sound-no e) h) (λ q. let z : _≡_ {A = ℕ} 0 1 = cc in omega arith)
 
   module _ (n : ℕ) where
     pub answered-refused :

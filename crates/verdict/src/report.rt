@@ -2,7 +2,6 @@
 use layout::CORES;
 use layout::MOST_PAGES;
 use layout::PAGES;
-use separation::Verdict;
 use text::put;
 ghost use mathlib.Core.Path.{_≡_};
 ghost use mathlib.Core.Bool.{true};
@@ -13,47 +12,48 @@ ghost use Rattle.tables.specs.Views.{coresOf, pagesOf};
 ghost use Rattle.tables.specs.Sound.{sound};
 ghost use Rattle.reach.specs.Reach.{isGroup};
 ghost use Rattle.separation.specs.Apart.{apartOn};
+ghost use Rattle.reasons.specs.inner.Search.{Sides};
 ghost use Rattle.verdict.specs.Reasons.{reasonLines};
 ghost use Rattle.verdict.specs.Report as x;
+ghost use Rattle.verdict.specs.inner.Left as y;
 
-// The sides and the picture, with a map for each side: at most 5,998 bytes.
-fn put_maps(
+// The sides and the picture, by the map of each side: at most 5,998 bytes.
+fn put_sides(
     out: &mut [u8],
     t: &[u32],
     m: &[u8],
     group: u32,
-    own: &mut [u8],
-    other: &mut [u8],
+    others: u32,
+    own: &[u8],
+    other: &[u8],
 ) -> usize
     requires { ⌜ sound (now t) (length (now m)) ≡ true ⌝ }
-    requires { ⌜ (5998 ≤ length (now out)) × (length (now own) ≡ pagesOf (now t)) × (length (now other) ≡ pagesOf (now t)) ⌝ }
+    requires { ⌜ y.Maps group others (now t) (now m) (now own) (now other) ⌝ }
+    requires { ⌜ 5998 ≤ length (now out) ⌝ }
     ensures { λ r. ⌜ Put (now (out .entry)) 0 (x.sidesText group (now (t .entry)) (now (m .entry))) r (now (out .exit)) × (r ≤ 5998) ⌝ }
 {
-    reach::fill(t, m, group, own);
-    let rest = separation::sides::rest(t, group);
-    reach::fill(t, m, rest, other);
     let cores = t[CORES];
     let p = crate::lines::put_side(out, 0, b"group: ", group, cores, own);
-    let q = crate::lines::put_side(out, p, b"rest: ", rest, cores, other);
+    let q = crate::lines::put_side(out, p, b"rest: ", others, cores, other);
     let s = crate::pages::put_picture(out, q, own, other);
     crate::lines::put_legend(out, s)
 }
 
-// The same with maps of its own.
-fn put_sides(out: &mut [u8], t: &[u32], m: &[u8], group: u32) -> usize
-    requires { ⌜ sound (now t) (length (now m)) ≡ true ⌝ }
-    requires { ⌜ 5998 ≤ length (now out) ⌝ }
-    ensures { λ r. ⌜ Put (now (out .entry)) 0 (x.sidesText group (now (t .entry)) (now (m .entry))) r (now (out .exit)) × (r ≤ 5998) ⌝ }
-{
-    let n = t[PAGES] as usize;
-    let mut own = [0u8; MOST_PAGES];
-    let mut other = [0u8; MOST_PAGES];
-    put_maps(out, t, m, group, &mut own[..n], &mut other[..n])
-}
-
 // A line for each reason, of which there are at most six.
-fn put_reasons(out: &mut [u8], at: usize, t: &[u32], m: &[u8], group: u32) -> usize
+fn put_reasons(
+    out: &mut [u8],
+    at: usize,
+    t: &[u32],
+    m: &[u8],
+    group: u32,
+    others: u32,
+    own: &[u8],
+    other: &[u8],
+    strays: bool,
+    astray: bool,
+) -> usize
     requires { ⌜ (sound (now t) (length (now m)) ≡ true) × (isGroup group (coresOf (now t)) ≡ true) × (at + 1410 ≤ length (now out)) ⌝ }
+    requires { ⌜ Sides group others (now t) (now m) (now own) (now other) strays astray ⌝ }
     ensures { λ r. ⌜ Put (now (out .entry)) at (reasonLines 6 0 group (now (t .entry)) (now (m .entry))) r (now (out .exit)) × (r ≤ at + 1368) ⌝ }
 {
     let mut words = [0u32; 9];
@@ -61,31 +61,83 @@ fn put_reasons(out: &mut [u8], at: usize, t: &[u32], m: &[u8], group: u32) -> us
     let mut p = at;
     let mut i: usize = 0;
     while i < 6 {
-        after = reasons::tell(t, m, group, after, &mut words);
+        let r = reasons::judge::first_after(t, m, group, others, own, other, strays, astray, after);
+        after = reasons::judge::number(r);
         if after == 0 {
             return p;
         }
+        reasons::words::put(&mut words, r);
         p = crate::reason::put_reason(out, p, after, crate::reason::way_of(&words));
         i += 1;
     }
     p
 }
 
-// The verdict, and what leads to it.
+// The report, by the maps of both sides and whether each reaches beyond memory. It is apart where there is no reason against it.
+fn put_all(
+    out: &mut [u8],
+    t: &[u32],
+    m: &[u8],
+    group: u32,
+    others: u32,
+    own: &[u8],
+    other: &[u8],
+    strays: bool,
+    astray: bool,
+) -> usize
+    requires { ⌜ (sound (now t) (length (now m)) ≡ true) × (isGroup group (coresOf (now t)) ≡ true) × (8192 ≤ length (now out)) ⌝ }
+    requires { ⌜ Sides group others (now t) (now m) (now own) (now other) strays astray ⌝ }
+    ensures { λ r. ⌜ x.Answered (apartOn group (now (t .entry)) (now (m .entry))) (now (out .entry)) group (now (t .entry)) (now (m .entry)) r (now (out .exit)) × (r ≤ 8192) ⌝ }
+{
+    let p = put_sides(out, t, m, group, others, own, other);
+    let r = reasons::judge::first_after(t, m, group, others, own, other, strays, astray, 0);
+    if reasons::judge::is_none(r) {
+        return put(out, p, b"apart\n");
+    }
+    let q = put_reasons(out, p, t, m, group, others, own, other, strays, astray);
+    put(out, q, b"not apart\n")
+}
+
+// The same with the maps filled here.
+fn put_with_maps(
+    out: &mut [u8],
+    t: &[u32],
+    m: &[u8],
+    group: u32,
+    own: &mut [u8],
+    other: &mut [u8],
+) -> usize
+    requires { ⌜ (sound (now t) (length (now m)) ≡ true) × (isGroup group (coresOf (now t)) ≡ true) × (8192 ≤ length (now out)) ⌝ }
+    requires { ⌜ (length (now own) ≡ pagesOf (now t)) × (length (now other) ≡ pagesOf (now t)) ⌝ }
+    ensures { λ r. ⌜ x.Answered (apartOn group (now (t .entry)) (now (m .entry))) (now (out .entry)) group (now (t .entry)) (now (m .entry)) r (now (out .exit)) × (r ≤ 8192) ⌝ }
+{
+    let others = separation::sides::rest(t, group);
+    let strays = reach::fill(t, m, group, own);
+    let astray = reach::fill(t, m, others, other);
+    put_all(out, t, m, group, others, own, other, strays, astray)
+}
+
+// The same with maps of its own.
+fn put_judged(out: &mut [u8], t: &[u32], m: &[u8], group: u32) -> usize
+    requires { ⌜ (sound (now t) (length (now m)) ≡ true) × (isGroup group (coresOf (now t)) ≡ true) × (8192 ≤ length (now out)) ⌝ }
+    ensures { λ r. ⌜ x.Answered (apartOn group (now (t .entry)) (now (m .entry))) (now (out .entry)) group (now (t .entry)) (now (m .entry)) r (now (out .exit)) × (r ≤ 8192) ⌝ }
+{
+    let n = t[PAGES] as usize;
+    let mut own = [0u8; MOST_PAGES];
+    let mut other = [0u8; MOST_PAGES];
+    put_with_maps(out, t, m, group, &mut own[..n], &mut other[..n])
+}
+
+// The verdict, and what leads to it; or a refusal.
 pub fn put_report(out: &mut [u8], t: &[u32], m: &[u8], group: u32) -> usize
     requires { ⌜ 8192 ≤ length (now out) ⌝ }
     ensures { λ r. ⌜ x.Answered (apartOn group (now (t .entry)) (now (m .entry))) (now (out .entry)) group (now (t .entry)) (now (m .entry)) r (now (out .exit)) × (r ≤ 8192) ⌝ }
 {
-    match separation::apart(t, m, group) {
-        Verdict::Refused(n) => crate::wrong::put_refused(out, n),
-        Verdict::Yes => {
-            let p = put_sides(out, t, m, group);
-            put(out, p, b"apart\n")
-        }
-        Verdict::No => {
-            let p = put_sides(out, t, m, group);
-            let q = put_reasons(out, p, t, m, group);
-            put(out, q, b"not apart\n")
-        }
+    if !tables::sound(t, m.len()) {
+        return crate::wrong::put_refused(out, 4);
     }
+    if !reach::is_group(group, t[CORES]) {
+        return crate::wrong::put_refused(out, 13);
+    }
+    put_judged(out, t, m, group)
 }
