@@ -3,24 +3,24 @@
 use mathlib.Core.Path.{_≡_, refl, sym, ap, ap₂, subst, _∙_}
 use mathlib.Core.Logic.{_≢_}
 use mathlib.Core.Bool.{Bool, true, false}
-use mathlib.Core.List.{List, [], _∷_, _++_, map, flatMap, append-assoc, append-nil}
-use Prim.Native.Nat.{ℕ, _+_, _-_, _*_, _/_, _%_, _^_, _<_, _≤_}
+use mathlib.Core.List.{List, [], _++_, map, flatMap, append-assoc, append-nil}
+use Prim.Native.Nat.{ℕ, _+_, _-_, _/_, _%_, _^_, _<_, _≤_}
 use native.Mathlib.Omega.{arith}
 use native.Mathlib.Decide.{decLt}
 use lib.Dec.{eqb}
-use lib.ListN.{length, getD, replicate, length-replicate, getD-replicate, List·getD-eq-default}
+use lib.ListN.{getD, replicate, length-replicate, getD-replicate, List·getD-eq-default}
 use borrow.Author.Tests.{eq-eqb, ne-eqb}
 use Rattle.word.specs.Word.{isSet}
 use Rattle.layout.specs.Layout.{recordAt}
 use Rattle.layout.specs.Blocks.{block}
-use Rattle.records.specs.Records.{chain, chainAt, all, small, walkNumbers, storeNumbers, walkIn}
+use Rattle.records.specs.Records.{chain, chainAt, all, small, walkNumbers, storeNumbers}
 use Rattle.records.proofs.Counts.{either}
 use Rattle.records.proofs.Checking.{Checking, check-start, check-low-next, chain-step, chain-zero, chain-none}
 use Rattle.tlb.specs.Walks.{baseAddress}
 use Rattle.tlb.specs.Steps.{originOf}
 use Rattle.reach.specs.Lists.{range}
-use Rattle.reach.specs.Reach.{members, grantsWrite}
-use Rattle.reach.proofs.Lists.{flatMap-append, flatMap-map, flatMap-ext, flatMap-select}
+use Rattle.reach.specs.Reach.{members}
+use Rattle.reach.proofs.Lists.{flatMap-append, flatMap-map, flatMap-select}
 use Rattle.reasons.specs.declared.Named.{Named}
 use Rattle.reasons.specs.declared.Root.{Root}
 use Rattle.reasons.specs.declared.Root.the-variants.{AtOrigin, AtWalk, AtStore}
@@ -30,7 +30,7 @@ use Rattle.reasons.specs.declared.Found.the-variants.{Nothing}
 use Rattle.reasons.specs.Ways.{naming, roots, rootWay, allFrom, coreWays, ways}
 use Rattle.reasons.specs.Why.{lower}
 use Rattle.reasons.specs.inner.Search.{sought, Known, Searched, recordRoot, recordWays, blockWays, memberWays}
-use Rattle.reasons.proofs.Searches.{lower-none, searched-none, searched-then, ways-next}
+use Rattle.reasons.proofs.Searches.{searched-none, searched-then, ways-next}
 
 -- ---- one record
 

@@ -25,7 +25,7 @@ use Rattle.reasons.specs.declared.Side.the-variants.{Group, Rest}
 use Rattle.reasons.specs.declared.Reason.{Reason}
 use Rattle.reasons.specs.declared.Reason.the-variants.{NoReason, Refused, NotUser, BeyondMemory, OwnTable, Touches}
 use Rattle.reasons.specs.Ways.{ways}
-use Rattle.reasons.specs.Why.{page, lower, lowest, grants, spoils, byWay, fails, firstFailing, modeReason, beyondReason, tableReason, touchReason, reasonAt, sideNumber, whyNumber, orElse, firstAfter, whyAfter}
+use Rattle.reasons.specs.Why.{page, lower, lowestWay, grants, spoils, byWay, fails, firstFailing, modeReason, beyondReason, tableReason, touchReason, reasonAt, sideNumber, whyNumber, firstAfter, whyAfter}
 use Rattle.reasons.specs.inner.Search.{isNone}
 use Rattle.reasons.specs.Grounds.{Real, Outside, Written, Met, Grounded, Law}
 use Rattle.reasons.proofs.Lists.{each-weak, each-select}
@@ -41,10 +41,10 @@ none-is (OwnTable s w) e = let z = eqb-true (4 + sideNumber s) 0 e in absurd (om
 none-is (Touches w) e = absurd (false≢true e)
 
 -- the lowest of some ways is one of them
-lowest-is : (G : Reason → Type 0) (f : Way → Reason) (l : List Way) → G NoReason → Each (λ w. G (f w)) l → G (byWay f (lowest l))
-unfolding lower lowest
+lowest-is : (G : Reason → Type 0) (f : Way → Reason) (l : List Way) → G NoReason → Each (λ w. G (f w)) l → G (byWay f (lowestWay l))
+unfolding lower lowestWay
 lowest-is G f [] z e = z
-lowest-is G f (w ∷ l) z e = go (lowest l) (lowest-is G f l z (e .1))
+lowest-is G f (w ∷ l) z e = go (lowestWay l) (lowest-is G f l z (e .1))
   where
     pick : (v : Way) (b : Bool) → G (f v) → G (byWay f (if b then Lowest v else Lowest w))
     pick v true h = h

@@ -1,11 +1,10 @@
 -- Lists: selecting, mapping and joining, for elements of any type.
 -- Assumes nothing.
-use mathlib.Core.Path.{_≡_, refl, sym, ap, ap₂, _∙_}
-use mathlib.Core.Bool.{Bool, true, false, _&&_, not}
+use mathlib.Core.Path.{_≡_, refl, ap, ap₂, _∙_}
+use mathlib.Core.Bool.{Bool, true, false, _&&_}
 use mathlib.Core.List.{List, [], _∷_, _++_, map, flatMap, map-append}
 use Prim.Native.Nat.{ℕ, _<_}
 use Rattle.word.specs.Word.{if_then_else_}
-use Rattle.word.proofs.Truth.{and-assoc, and-turn, and-true}
 use Rattle.records.specs.Records.{all}
 use Rattle.reach.specs.Lists.{range, select}
 use Rattle.reach.proofs.Lists.{In, in-here, in-there, Each, each-append, flatMap-append, all-append, range-in}

@@ -1,10 +1,10 @@
 -- There is no reason exactly where the group is apart.
 -- Assumes nothing.
 use mathlib.Core.Path.{_≡_, refl, sym, ap, ap₂, _∙_}
-use mathlib.Core.Bool.{Bool, true, false, _&&_, _||_, not, false≢true}
+use mathlib.Core.Bool.{Bool, true, false, _&&_, _||_, not}
 use mathlib.Core.List.{List, [], _∷_, _++_, map, flatMap}
-use Prim.Native.Nat.{ℕ, zero, suc, _+_, _-_, _<_}
-use lib.Dec.{eqb, ltb, leb}
+use Prim.Native.Nat.{ℕ, zero, suc, _+_, _-_}
+use lib.Dec.{eqb, ltb}
 use native.Mathlib.Omega.{arith}
 use borrow.Author.Tests.{eqb-true, le-ltb, ne-eqb}
 use Rattle.word.specs.Word.{if_then_else_, isSet}
@@ -27,9 +27,9 @@ use Rattle.reasons.specs.declared.Found.the-variants.{Nothing, Lowest}
 use Rattle.reasons.specs.declared.Side.{Side}
 use Rattle.reasons.specs.declared.Side.the-variants.{Group, Rest}
 use Rattle.reasons.specs.declared.Reason.{Reason}
-use Rattle.reasons.specs.declared.Reason.the-variants.{NoReason, Refused, NotUser, BeyondMemory, OwnTable, Touches}
-use Rattle.reasons.specs.Ways.{naming, roots, rootWay, entryName, nextName, further, nextWays, onward, allFrom, coreWays, ways}
-use Rattle.reasons.specs.Why.{page, lower, lowest, grants, spoils, byWay, fails, firstFailing, modeReason, beyondReason, tableReason, touchReason, reasonAt, sideNumber, whyNumber, orElse, firstAfter}
+use Rattle.reasons.specs.declared.Reason.the-variants.{NoReason, NotUser, BeyondMemory, OwnTable, Touches}
+use Rattle.reasons.specs.Ways.{naming, roots, rootWay, entryNamed, nextNamed, further, nextWays, onward, allFrom, coreWays, ways}
+use Rattle.reasons.specs.Why.{page, lower, lowestWay, grants, spoils, byWay, fails, firstFailing, modeReason, beyondReason, tableReason, touchReason, reasonAt, sideNumber, orElse, firstAfter}
 use Rattle.reasons.specs.inner.Search.{isNone}
 use Rattle.reasons.proofs.Lists.{flat-flat, each-map, each-through, all-map, all-ext, all-flatMap, all-both, all-selected}
 use Rattle.reasons.proofs.Pages.{rootWays, atLevel, firstWays, secondWays, dataWays, writeWays, first-pages, second-pages, data-pages, writable-pages}
@@ -147,10 +147,10 @@ selected-level l (w ∷ r) = go (atLevel l w) refl (selected-level l r)
 down : (m : List ℕ) (l : ℕ) (w : Way) → AtLevel l w → Each (AtLevel (l - 1)) (nextWays m w)
 unfolding nextWays flatMap
 down m l w e =
-    each-flatMap (AtLevel (l - 1)) (λ (i : ℕ). map (further w i) (nextName m (w .names) i)) (range 1024)
-    (λ i. each-map (AtLevel (l - 1)) (further w i) (nextName m (w .names) i) (one (entryAt m (pteaAt (w .names .page) i))))
+    each-flatMap (AtLevel (l - 1)) (λ (i : ℕ). map (further w i) (nextNamed m (w .names) i)) (range 1024)
+    (λ i. each-map (AtLevel (l - 1)) (further w i) (nextNamed m (w .names) i) (one (entryAt m (pteaAt (w .names .page) i))))
   where
-    one : (v : Entry) → Each (λ (y : Named). y .level ≡ l - 1) (entryName (w .names) v)
+    one : (v : Entry) → Each (λ (y : Named). y .level ≡ l - 1) (entryNamed (w .names) v)
     one (Word v) = by (pteP v)
       where
         by : (p : Bool) → Each (λ (y : Named). y .level ≡ l - 1) (if p then naming (w .names .level - 1) (pteBa v) (grantsWrite (pteR v)) ∷ [] else [])
@@ -280,13 +280,13 @@ some w (Lowest v) = go (ltb (page v) (page w))
     go true = refl
     go false = refl
 
-pub lowest-nothing : (p : Way → Bool) (l : List Way) → isNothing (lowest (select p l)) ≡ all (λ w. not (p w)) l
-unfolding lower lowest select all
+pub lowest-nothing : (p : Way → Bool) (l : List Way) → isNothing (lowestWay (select p l)) ≡ all (λ w. not (p w)) l
+unfolding lower lowestWay select all
 lowest-nothing p [] = refl
 lowest-nothing p (w ∷ l) = go (p w) (lowest-nothing p l)
   where
-    go : (b : Bool) → isNothing (lowest (select p l)) ≡ all (λ v. not (p v)) l → isNothing (lowest (if b then w ∷ select p l else select p l)) ≡ not b && all (λ v. not (p v)) l
-    go true e = some w (lowest (select p l))
+    go : (b : Bool) → isNothing (lowestWay (select p l)) ≡ all (λ v. not (p v)) l → isNothing (lowestWay (if b then w ∷ select p l else select p l)) ≡ not b && all (λ v. not (p v)) l
+    go true e = some w (lowestWay (select p l))
     go false e = e
 
 by-way : (f : Way → Reason) → ((w : Way) → isNone (f w) ≡ false) → (x : Found) → isNone (byWay f x) ≡ isNothing x
@@ -311,7 +311,7 @@ module _ (s : Side) (cs t m : List ℕ) where
   beyond-none : isNone (beyondReason s cs t m) ≡ inMemory (reach cs t m) (pagesOf t)
   unfolding beyondReason inMemory
   beyond-none =
-      by-way (BeyondMemory s) (λ w. ne-eqb (2 + sideNumber s) 0 (λ z. omega arith)) (lowest (select (λ w. not (ltb (page w) (pagesOf t))) (ways cs t m)))
+      by-way (BeyondMemory s) (λ w. ne-eqb (2 + sideNumber s) 0 (λ z. omega arith)) (lowestWay (select (λ w. not (ltb (page w) (pagesOf t))) (ways cs t m)))
       ∙ lowest-nothing (λ w. not (ltb (page w) (pagesOf t))) (ways cs t m)
       ∙ all-ext (λ w. not (not (ltb (page w) (pagesOf t)))) (λ w. ltb (page w) (pagesOf t)) (ways cs t m) (λ w. twice (ltb (page w) (pagesOf t)))
       ∙ reached-all cs t m (λ p. ltb p (pagesOf t))
@@ -323,7 +323,7 @@ module _ (s : Side) (cs t m : List ℕ) where
   table-none : inMemory (reach cs t m) (pagesOf t) ≡ true → isNone (tableReason s cs t m) ≡ closed (reach cs t m)
   unfolding tableReason inMemory disjoint
   table-none e =
-      by-way (OwnTable s) (λ w. ne-eqb (4 + sideNumber s) 0 (λ z. omega arith)) (lowest (select (λ w. grants w && r (page w)) (ways cs t m)))
+      by-way (OwnTable s) (λ w. ne-eqb (4 + sideNumber s) 0 (λ z. omega arith)) (lowestWay (select (λ w. grants w && r (page w)) (ways cs t m)))
       ∙ lowest-nothing (λ w. grants w && r (page w)) (ways cs t m)
       ∙ grants-all cs t m r
       ∙ guarded (pagesOf t) (λ p. has p (tablePages S)) (S .writables) (and-right (all low (S .datas)) _ (rw (all-append low (S .datas) (S .writables)) at (and-right (all low (tablePages S)) _ (rw (all-append low (tablePages S) (S .datas ++ S .writables)) at e))))
@@ -347,7 +347,7 @@ module _ (cs os t m : List ℕ) where
   touch-none : inMemory Q (pagesOf t) ≡ true → isNone (touchReason cs os t m) ≡ disjoint (reached P) (Q .writables ++ tablePages Q)
   unfolding touchReason inMemory disjoint
   touch-none e =
-      by-way Touches (λ w. refl) (lowest (select (λ w. spoils w && r (page w)) (ways os t m)))
+      by-way Touches (λ w. refl) (lowestWay (select (λ w. spoils w && r (page w)) (ways os t m)))
       ∙ lowest-nothing (λ w. spoils w && r (page w)) (ways os t m)
       ∙ spoils-all os t m r
       ∙ guarded (pagesOf t) (λ p. has p (reached P)) (Q .writables ++ tablePages Q) low-all

@@ -15,13 +15,12 @@ use Rattle.tlb.specs.declared.Entry.the-variants.{Word, Missing}
 use Rattle.tlb.specs.Walks.{walkLevel, walkR, walkBa, baseAddress, entryAt, pteaAt, pteP, pteR, pteBa, complete}
 use Rattle.tlb.specs.Steps.{originOf}
 use Rattle.reach.specs.Lists.{range, select}
-use Rattle.reach.specs.Reach.{Pages, anyRights, grantsWrite, basesOf, storePages, namedBy, named, over, firstPages, secondPages, dataPages, writablePages, reach, tablePages, reached}
-use Rattle.reach.proofs.Lists.{flatMap-map, flatMap-ext, flatMap-append}
+use Rattle.reach.specs.Reach.{anyRights, grantsWrite, basesOf, storePages, namedBy, named, over, firstPages, secondPages, dataPages, writablePages, reach}
+use Rattle.reach.proofs.Lists.{flatMap-map, flatMap-ext}
 use Rattle.reasons.specs.declared.Named.{Named}
-use Rattle.reasons.specs.declared.Root.{Root}
 use Rattle.reasons.specs.declared.Root.the-variants.{AtOrigin, AtWalk, AtStore}
 use Rattle.reasons.specs.declared.Way.{Way}
-use Rattle.reasons.specs.Ways.{naming, rootName, roots, entryName, nextName, rootWay, further, nextWays}
+use Rattle.reasons.specs.Ways.{naming, roots, entryNamed, nextNamed, rootWay, further, nextWays}
 use Rattle.reasons.specs.Why.{page}
 use Rattle.reasons.proofs.Lists.{select-join, select-none, select-all, select-both, select-flatMap, select-map, map-flatMap}
 
@@ -109,7 +108,7 @@ over-roots cs t q f e =
 
 -- ---- entries
 
-entry-pages : (x : Named) (e : Entry) → map (λ (y : Named). y .page) (entryName x e) ≡ namedBy anyRights e
+entry-pages : (x : Named) (e : Entry) → map (λ (y : Named). y .page) (entryNamed x e) ≡ namedBy anyRights e
 entry-pages x (Word e) = go (pteP e)
   where
     go : (p : Bool) → map (λ (y : Named). y .page) (if p then naming (x .level - 1) (pteBa e) (grantsWrite (pteR e)) ∷ [] else []) ≡ (if p && true then pteBa e ∷ [] else [])
@@ -117,7 +116,7 @@ entry-pages x (Word e) = go (pteP e)
     go false = refl
 entry-pages x Missing = refl
 
-write-pages : (x : Named) (e : Entry) → map (λ (y : Named). y .page) (select (λ (y : Named). y .write) (entryName x e)) ≡ namedBy grantsWrite e
+write-pages : (x : Named) (e : Entry) → map (λ (y : Named). y .page) (select (λ (y : Named). y .write) (entryNamed x e)) ≡ namedBy grantsWrite e
 unfolding select
 write-pages x (Word e) = go (pteP e) (grantsWrite (pteR e))
   where
@@ -130,19 +129,19 @@ write-pages x Missing = refl
 next-pages : (m : List ℕ) (w : Way) → map page (nextWays m w) ≡ named anyRights m (page w)
 unfolding nextWays named
 next-pages m w =
-    map-flatMap page (λ (i : ℕ). map (further w i) (nextName m (w .names) i)) (range 1024)
+    map-flatMap page (λ (i : ℕ). map (further w i) (nextNamed m (w .names) i)) (range 1024)
     ∙ flatMap-ext _ (λ (i : ℕ). namedBy anyRights (entryAt m (pteaAt (page w) i))) (range 1024)
-    (λ i. map-map page (further w i) (nextName m (w .names) i) ∙ entry-pages (w .names) (entryAt m (pteaAt (page w) i)))
+    (λ i. map-map page (further w i) (nextNamed m (w .names) i) ∙ entry-pages (w .names) (entryAt m (pteaAt (page w) i)))
 
 next-writes : (m : List ℕ) (w : Way) → map page (select (λ (v : Way). v .names .write) (nextWays m w)) ≡ named grantsWrite m (page w)
 unfolding nextWays named
 next-writes m w =
-    ap (map page) (select-flatMap (λ (v : Way). v .names .write) (λ (i : ℕ). map (further w i) (nextName m (w .names) i)) (range 1024))
-    ∙ map-flatMap page (λ (i : ℕ). select (λ (v : Way). v .names .write) (map (further w i) (nextName m (w .names) i))) (range 1024)
+    ap (map page) (select-flatMap (λ (v : Way). v .names .write) (λ (i : ℕ). map (further w i) (nextNamed m (w .names) i)) (range 1024))
+    ∙ map-flatMap page (λ (i : ℕ). select (λ (v : Way). v .names .write) (map (further w i) (nextNamed m (w .names) i))) (range 1024)
     ∙ flatMap-ext _ (λ (i : ℕ). namedBy grantsWrite (entryAt m (pteaAt (page w) i))) (range 1024)
     (λ i.
-    ap (map page) (select-map (λ (v : Way). v .names .write) (further w i) (nextName m (w .names) i))
-    ∙ map-map page (further w i) (select (λ (y : Named). y .write) (nextName m (w .names) i))
+    ap (map page) (select-map (λ (v : Way). v .names .write) (further w i) (nextNamed m (w .names) i))
+    ∙ map-map page (further w i) (select (λ (y : Named). y .write) (nextNamed m (w .names) i))
     ∙ write-pages (w .names) (entryAt m (pteaAt (page w) i)))
 
 through : (m : List ℕ) (l : List Way) → map page (flatMap (nextWays m) l) ≡ flatMap (named anyRights m) (map page l)

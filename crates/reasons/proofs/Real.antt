@@ -3,7 +3,7 @@
 use mathlib.Core.Path.{_≡_, refl, sym, ap, _∙_}
 use mathlib.Core.Bool.{Bool, true, false}
 use mathlib.Core.List.{List, [], _∷_, _++_, map, flatMap, map-id, append-nil}
-use Prim.Native.Nat.{ℕ, zero, suc, _+_, _-_, _/_, _%_, _≤_, _<_}
+use Prim.Native.Nat.{ℕ, zero, suc, _+_, _-_, _≤_, _<_}
 use native.Mathlib.Omega.{arith}
 use lib.Dec.{eqb, ltb}
 use borrow.Author.Tests.{ltb-true, eq-eqb}
@@ -18,7 +18,7 @@ use Rattle.reasons.specs.declared.Named.{Named}
 use Rattle.reasons.specs.declared.Root.{Root}
 use Rattle.reasons.specs.declared.Way.{Way}
 use Rattle.reasons.specs.Grounds.{Real}
-use Rattle.reasons.specs.Ways.{naming, rootName, roots, entryName, nextName, entriesOf, placeOf, namedAt, follow, followed, rootWay, further, nextWays, onward, allFrom, coreWays, ways}
+use Rattle.reasons.specs.Ways.{naming, rootNamed, roots, entryNamed, nextNamed, entriesOf, entryPlace, namedAt, follow, followed, rootWay, further, nextWays, onward, allFrom, coreWays, ways}
 use Rattle.reasons.proofs.Lists.{flat-flat, each-range, each-map, each-weak, each-through}
 
 -- ---- one entry more
@@ -35,16 +35,16 @@ follow-more m x (b ∷ l) a =
     ∙ sym (flat-flat (λ (z : Named). namedAt m z a) (λ (y : Named). follow m y l) (namedAt m x b))
 
 -- the entry at the address of entry i is entry i
-at-place : (m : List ℕ) (x : Named) (i : ℕ) → i < 1024 → namedAt m x (pteaAt (x .page) i) ≡ nextName m x i
+at-place : (m : List ℕ) (x : Named) (i : ℕ) → i < 1024 → namedAt m x (pteaAt (x .page) i) ≡ nextNamed m x i
 at-place m x i h =
-    let e : placeOf (pteaAt (x .page) i) ≡ i = omega arith in
+    let e : entryPlace (pteaAt (x .page) i) ≡ i = omega arith in
     rw e (same (eq-eqb (pteaAt (x .page) i) (pteaAt (x .page) i) refl))
   where
-    same : eqb (pteaAt (x .page) i) (pteaAt (x .page) i) ≡ true → (if eqb (pteaAt (x .page) i) (pteaAt (x .page) i) then nextName m x i else []) ≡ nextName m x i
+    same : eqb (pteaAt (x .page) i) (pteaAt (x .page) i) ≡ true → (if eqb (pteaAt (x .page) i) (pteaAt (x .page) i) then nextNamed m x i else []) ≡ nextNamed m x i
     same q = rw q refl
 
 -- an entry names at most one page
-only : (x : Named) (e : Entry) → Each (λ (y : Named). entryName x e ≡ y ∷ []) (entryName x e)
+only : (x : Named) (e : Entry) → Each (λ (y : Named). entryNamed x e ≡ y ∷ []) (entryNamed x e)
 only x (Word e) = go (pteP e)
   where
     y : Named
@@ -73,12 +73,12 @@ module _ (cs t m : List ℕ) where
 
   next-real : (n : ℕ) (w : Way) → n < 2 → Short n w → Each (Short (n + 1)) (nextWays m w)
   unfolding nextWays flatMap
-  next-real n w few (r, s) = each-range (Short (n + 1)) (λ (i : ℕ). map (further w i) (nextName m (w .names) i)) 1024 (λ i h. each-map (Short (n + 1)) (further w i) (nextName m (w .names) i) (each-weak (λ (y : Named). nextName m (w .names) i ≡ y ∷ []) (λ (y : Named). Short (n + 1) (further w i y)) (nextName m (w .names) i) (λ y e. (more i y h e, omega arith)) (only (w .names) (entryAt m (pteaAt (w .names .page) i)))))
+  next-real n w few (r, s) = each-range (Short (n + 1)) (λ (i : ℕ). map (further w i) (nextNamed m (w .names) i)) 1024 (λ i h. each-map (Short (n + 1)) (further w i) (nextNamed m (w .names) i) (each-weak (λ (y : Named). nextNamed m (w .names) i ≡ y ∷ []) (λ (y : Named). Short (n + 1) (further w i y)) (nextNamed m (w .names) i) (λ y e. (more i y h e, omega arith)) (only (w .names) (entryAt m (pteaAt (w .names .page) i)))))
     where
       x : Named
-      x = rootName (block t (w .core)) (w .root)
+      x = rootNamed (block t (w .core)) (w .root)
 
-      more : (i : ℕ) (y : Named) → i < 1024 → nextName m (w .names) i ≡ y ∷ [] → R (further w i y)
+      more : (i : ℕ) (y : Named) → i < 1024 → nextNamed m (w .names) i ≡ y ∷ [] → R (further w i y)
       more i y h e =
           record {
             follows =

@@ -4,7 +4,7 @@ use mathlib.Core.Path.{_≡_, refl, sym, ap, ap₂, subst, _∙_}
 use mathlib.Core.Logic.{_≢_}
 use mathlib.Core.Bool.{Bool, true, false, _&&_, _||_, not, false≢true}
 use mathlib.Core.List.{List, [], _∷_, _++_}
-use Prim.Native.Nat.{ℕ, zero, suc, _+_, _-_, _/_, _%_, _^_, _<_, _≤_}
+use Prim.Native.Nat.{ℕ, zero, suc, _+_, _-_, _/_, _%_, _<_, _≤_}
 use native.Mathlib.Omega.{arith}
 use native.Mathlib.Numerals.{add-one}
 use native.Mathlib.Decide.{ℕ-discrete}
@@ -21,7 +21,7 @@ use Rattle.tables.specs.Views.{coresOf, pagesOf, runs}
 use Rattle.reach.specs.Lists.{range, has, select}
 use Rattle.reach.specs.Reach.{Pages, members, reach, tablePages, reached, inMemory, mapByte, mapFor}
 use Rattle.reach.proofs.Lists.{Each, has-append, in-all}
-use Rattle.separation.specs.Apart.{rest, runsAsUser}
+use Rattle.separation.specs.Apart.{runsAsUser}
 use Rattle.separation.specs.inner.Sides.{passes}
 use Rattle.separation.proofs.Mapped.{map-long, marked-is, byte-table, byte-writable, byte-in}
 use Rattle.reasons.specs.declared.Named.{Named}
@@ -30,11 +30,11 @@ use Rattle.reasons.specs.declared.Found.{Found}
 use Rattle.reasons.specs.declared.Found.the-variants.{Nothing, Lowest}
 use Rattle.reasons.specs.declared.Side.the-variants.{Group, Rest}
 use Rattle.reasons.specs.declared.Reason.{Reason}
-use Rattle.reasons.specs.declared.Reason.the-variants.{NoReason, Refused, NotUser, BeyondMemory, OwnTable, Touches}
+use Rattle.reasons.specs.declared.Reason.the-variants.{NoReason, NotUser, BeyondMemory, OwnTable, Touches}
 use Rattle.reasons.specs.declared.search.Want.{Want}
 use Rattle.reasons.specs.Ways.{ways}
-use Rattle.reasons.specs.Why.{page, lowest, grants, spoils, byWay, fails, firstFailing, modeReason, beyondReason, tableReason, touchReason, reasonAt, whyNumber, orElse, firstAfter}
-use Rattle.reasons.specs.inner.Search.{wanted, sought, faultAt, Faults, Marked, faulty, beyondFound, tableFound, touchFound, asReason, isNone, Sides}
+use Rattle.reasons.specs.Why.{page, lowestWay, grants, spoils, byWay, fails, firstFailing, modeReason, beyondReason, tableReason, touchReason, reasonAt, whyNumber, orElse, firstAfter}
+use Rattle.reasons.specs.inner.Search.{wanted, sought, faultAt, Faults, FaultsMarked, faulty, beyondFound, tableFound, touchFound, asReason, isNone, Sides}
 use Rattle.reasons.proofs.None.{isNothing, lowest-nothing, reached-all, grants-all, spoils-all}
 use Rattle.reasons.proofs.Lists.{select-none, each-weak, all-ext}
 use Rattle.reasons.proofs.Searches.{wanted-below, wanted-out, wanted-table, wanted-page}
@@ -130,6 +130,13 @@ unfolding all
 all-each p [] e = tt
 all-each p (w ∷ l) e = (and-left (p w) _ e, all-each p l (and-right (p w) _ e))
 
+-- tests of a page in memory, where the second holds wherever the way passes
+same : (g l a b x y : Bool) → (l ≡ true → a ≡ x) → (l ≡ true → b ≡ y) → not (g && not y) ≡ true → g && (l && (a && b)) ≡ g && (l && x)
+same true true a b x true f u h = ap₂ _&&_ (f refl) (u refl) ∙ and-true x
+same true true a b x false f u h = absurd (false≢true h)
+same true false a b x y f u h = refl
+same false l a b x y f u h = refl
+
 -- a list has its own elements
 itself : (l : List ℕ) → all (λ p. not (not (has p l))) l ≡ true
 itself l = in-all (λ p. not (not (has p l))) l (λ p h. rw h refl)
@@ -177,15 +184,15 @@ module _ (k : ℕ) (own other s : List ℕ) (low : ℕ) (F : Faults k own other 
 
   -- where no page is at fault nothing is found
   pub none-wanted : (l : List Way) → length s ≤ low → Nothing ≡ sought (faulty k (length s) own other) l
-  unfolding sought lowest
-  none-wanted l h = sym (ap lowest (select-none (λ w. faulty k (length s) own other (w .names)) l (λ w. sym (wanted-is (w .names)) ∙ out (w .names))))
+  unfolding sought lowestWay
+  none-wanted l h = sym (ap lowestWay (select-none (λ w. faulty k (length s) own other (w .names)) l (λ w. sym (wanted-is (w .names)) ∙ out (w .names))))
     where
       out : (x : Named) → wanted want (length s) s x ≡ false
       out x = tested (ltb (x .page) low) (λ b. sym (wanted-below want (length s) s x (ltb-true (x .page) low b))) (λ b. let g : low ≤ x .page = ltb-false (x .page) low b in sym (wanted-out want (length s) s x g d (omega arith)))
 
   pub wanted-faulty : (l : List Way) → sought (wanted want (length s) s) l ≡ sought (faulty k (length s) own other) l
   unfolding sought
-  wanted-faulty l = ap lowest (select-same (λ w. wanted want (length s) s (w .names)) (λ w. faulty k (length s) own other (w .names)) l (λ w. wanted-is (w .names)))
+  wanted-faulty l = ap lowestWay (select-same (λ w. wanted want (length s) s (w .names)) (λ w. faulty k (length s) own other (w .names)) l (λ w. wanted-is (w .names)))
 
 -- the same beside a memory of n pages
 module _ (k : ℕ) (own other s : List ℕ) (low n : ℕ) (z : length s ≡ n) (F : Faults k own other s low) (d : k ≢ 0) (l : List Way) where
@@ -198,11 +205,11 @@ module _ (k : ℕ) (own other s : List ℕ) (low n : ℕ) (z : length s ≡ n) (
 module _ (cs t m : List ℕ) where
   pub beyond-is : (c : List ℕ) → sought (wanted (record { kind = 0; low = 0 }) (pagesOf t) c) (ways cs t m) ≡ beyondFound cs t m
   unfolding sought wanted beyondFound
-  beyond-is c = ap lowest (select-same (λ w. wanted (record { kind = 0; low = 0 }) (pagesOf t) c (w .names)) (λ w. not (ltb (page w) (pagesOf t))) (ways cs t m) (λ w. rw (le-ltb (page w) 0 (omega arith)) refl))
+  beyond-is c = ap lowestWay (select-same (λ w. wanted (record { kind = 0; low = 0 }) (pagesOf t) c (w .names)) (λ w. not (ltb (page w) (pagesOf t))) (ways cs t m) (λ w. rw (le-ltb (page w) 0 (omega arith)) refl))
 
   pub beyond-none : (b : Bool) → b ≡ not (inMemory (reach cs t m) (pagesOf t)) → b ≡ false → Nothing ≡ beyondFound cs t m
   unfolding beyondFound inMemory
-  beyond-none b p q = sym (nothing (lowest (select (λ w. not (ltb (page w) (pagesOf t))) (ways cs t m))) (lowest-nothing (λ w. not (ltb (page w) (pagesOf t))) (ways cs t m) ∙ all-ext (λ w. not (not (ltb (page w) (pagesOf t)))) (λ w. ltb (page w) (pagesOf t)) (ways cs t m) (λ w. twice (ltb (page w) (pagesOf t))) ∙ reached-all cs t m (λ p. ltb p (pagesOf t)) ∙ inside (inMemory (reach cs t m) (pagesOf t)) (sym p ∙ q)))
+  beyond-none b p q = sym (nothing (lowestWay (select (λ w. not (ltb (page w) (pagesOf t))) (ways cs t m))) (lowest-nothing (λ w. not (ltb (page w) (pagesOf t))) (ways cs t m) ∙ all-ext (λ w. not (not (ltb (page w) (pagesOf t)))) (λ w. ltb (page w) (pagesOf t)) (ways cs t m) (λ w. twice (ltb (page w) (pagesOf t))) ∙ reached-all cs t m (λ p. ltb p (pagesOf t)) ∙ inside (inMemory (reach cs t m) (pagesOf t)) (sym p ∙ q)))
     where
       nothing : (f : Found) → isNothing f ≡ true → f ≡ Nothing
       nothing Nothing e = refl
@@ -239,31 +246,19 @@ module _ (cs t m : List ℕ) where
   pub table-is : (c : List ℕ) → c ≡ mapFor cs t m → sought (faulty 1 (pagesOf t) c c) (ways cs t m) ≡ tableFound cs t m
   unfolding sought faulty faultAt tableFound
   table-is c e =
-      rw e (ap lowest (select-where _ (λ w. grants w && (ltb (page w) (pagesOf t) && has (page w) (tablePages (reach cs t m)))) (ways cs t m)
+      rw e (ap lowestWay (select-where _ (λ w. grants w && (ltb (page w) (pagesOf t) && has (page w) (tablePages (reach cs t m)))) (ways cs t m)
       (each-weak (λ w. not (grants w && not (has (page w) (reach cs t m .writables))) ≡ true) _ (ways cs t m) (λ w h. same (grants w) (ltb (page w) (pagesOf t)) _ _ (has (page w) (tablePages (reach cs t m))) (has (page w) (reach cs t m .writables)) (has-table (page w)) (has-writable (page w)) h) granting)))
-    where
-      same : (g l a b x y : Bool) → (l ≡ true → a ≡ x) → (l ≡ true → b ≡ y) → not (g && not y) ≡ true → g && (l && (a && b)) ≡ g && (l && x)
-      same true true a b x true f u h = ap₂ _&&_ (f refl) (u refl) ∙ and-true x
-      same true true a b x false f u h = absurd (false≢true h)
-      same true false a b x y f u h = refl
-      same false l a b x y f u h = refl
 
 pub touch-is : (cs os t m c d : List ℕ) → c ≡ mapFor cs t m → d ≡ mapFor os t m → sought (faulty 2 (pagesOf t) c d) (ways os t m) ≡ touchFound cs os t m
 unfolding sought faulty faultAt touchFound
 touch-is cs os t m c d e q =
-    rw (e, q) (ap lowest (select-where _ (λ w. spoils w && (ltb (page w) (pagesOf t) && has (page w) (reached (reach cs t m)))) (ways os t m)
+    rw (e, q) (ap lowestWay (select-where _ (λ w. spoils w && (ltb (page w) (pagesOf t) && has (page w) (reached (reach cs t m)))) (ways os t m)
     (each-weak (λ w. not (spoils w && not (has (page w) (Q .writables ++ tablePages Q))) ≡ true) _ (ways os t m)
     (λ w h. same (spoils w) (ltb (page w) (pagesOf t)) _ _ (has (page w) (reached (reach cs t m))) (has (page w) (Q .writables ++ tablePages Q)) (has-any cs t m (page w)) (λ l. ap₂ _||_ (has-writable os t m (page w) l) (has-table os t m (page w) l) ∙ sym (has-append (page w) (Q .writables) (tablePages Q))) h)
     (spoiling os t m))))
   where
     Q : Pages
     Q = reach os t m
-
-    same : (g l a b x y : Bool) → (l ≡ true → a ≡ x) → (l ≡ true → b ≡ y) → not (g && not y) ≡ true → g && (l && (a && b)) ≡ g && (l && x)
-    same true true a b x true f u h = ap₂ _&&_ (f refl) (u refl) ∙ and-true x
-    same true true a b x false f u h = absurd (false≢true h)
-    same true false a b x y f u h = refl
-    same false l a b x y f u h = refl
 
 -- ---- pages at fault, from the last on
 
@@ -303,7 +298,7 @@ module _ (k : ℕ) (own other s : List ℕ) (low i : ℕ) (F : From k own other 
         least = λ p j l u. either (ℕ-discrete p i) (λ q. clash b (e ∙ sym (ap (λ (z : ℕ). faultAt k (getD own z 0) (getD other z 0)) q) ∙ u) t) (λ d. F .least p (omega arith) (omega (arith, length-set s i 0)) u);
       }
 
-pub from-all : (k : ℕ) (own other r s : List ℕ) (low i : ℕ) → length s ≡ length r → i ≤ 0 → From k own other s low i → Marked k own other r s low
+pub from-all : (k : ℕ) (own other r s : List ℕ) (low i : ℕ) → length s ≡ length r → i ≤ 0 → From k own other s low i → FaultsMarked k own other r s low
 from-all k own other r s low i q z F = record { long = q; faults = record { marks = λ p l. F .marks p (omega arith) l; least = λ p l e. F .least p (omega arith) l e } }
 
 -- ---- a way as a reason

@@ -3,15 +3,15 @@
 use mathlib.Core.Path.{_≡_, refl, sym, ap, subst, _∙_}
 use mathlib.Core.Logic.{_≢_}
 use mathlib.Core.Bool.{Bool, true, false, _&&_, _||_, not, false≢true}
-use mathlib.Core.List.{List, [], _∷_, _++_, map, flatMap, map-map, map-id, append-nil}
-use Prim.Native.Nat.{ℕ, _+_, _-_, _*_, _/_, _%_, _^_, _<_, _≤_}
+use mathlib.Core.List.{List, [], _∷_, _++_, map, flatMap, map-map, map-id}
+use Prim.Native.Nat.{ℕ, _+_, _-_, _*_, _%_, _^_, _<_, _≤_}
 use native.Mathlib.Omega.{arith}
 use native.Mathlib.Numerals.{add-one}
 use native.Mathlib.Decide.{ℕ-discrete}
 use lib.Dec.{eqb, ltb, leb}
 use lib.ListN.{length, getD, set, length-set}
 use lib.Seq.{getD-set-other}
-use borrow.Author.Tests.{lt-ltb, le-ltb, lt-leb, le-leb, eq-eqb, ne-eqb, ltb-true, ltb-false, leb-true, not-true}
+use borrow.Author.Tests.{lt-ltb, le-ltb, lt-leb, le-leb, ne-eqb, ltb-true, ltb-false, leb-true, not-true}
 use Rattle.word.specs.Word.{if_then_else_}
 use Rattle.word.specs.Bytes.{bytesAt}
 use Rattle.word.proofs.Truth.{and-left, and-right, and-both, tested}
@@ -29,8 +29,8 @@ use Rattle.reasons.specs.declared.Way.{Way}
 use Rattle.reasons.specs.declared.Found.{Found}
 use Rattle.reasons.specs.declared.Found.the-variants.{Nothing, Lowest}
 use Rattle.reasons.specs.declared.search.Want.{Want}
-use Rattle.reasons.specs.Ways.{naming, entryName, nextName, further, nextWays, onward, allFrom}
-use Rattle.reasons.specs.Why.{page, lower, lowest}
+use Rattle.reasons.specs.Ways.{naming, entryNamed, nextNamed, further, nextWays, onward, allFrom}
+use Rattle.reasons.specs.Why.{page, lower, lowestWay}
 use Rattle.reasons.specs.inner.Search.{wanted, isLowest, hits, sought, tableNames, notLower, Known, Searched, throughEntry}
 use Rattle.reasons.proofs.Lists.{select-join, select-map, map-flatMap, flat-flat, flatMap-where, all-map}
 
@@ -106,26 +106,26 @@ lower-assoc (Lowest u) Nothing h = refl
 lower-assoc (Lowest u) (Lowest v) Nothing = lower-none (if ltb (page v) (page u) then Lowest v else Lowest u)
 lower-assoc (Lowest u) (Lowest v) (Lowest w) = three u v w (ltb (page v) (page u)) (ltb (page w) (page v)) (ltb (page w) (page u)) refl refl refl
 
-lowest-append : (l r : List Way) → lowest (l ++ r) ≡ lower (lowest l) (lowest r)
-unfolding lower lowest
+lowest-append : (l r : List Way) → lowestWay (l ++ r) ≡ lower (lowestWay l) (lowestWay r)
+unfolding lower lowestWay
 lowest-append [] r = refl
-lowest-append (w ∷ l) r = ap (lower (Lowest w)) (lowest-append l r) ∙ sym (lower-assoc (Lowest w) (lowest l) (lowest r))
+lowest-append (w ∷ l) r = ap (lower (Lowest w)) (lowest-append l r) ∙ sym (lower-assoc (Lowest w) (lowestWay l) (lowestWay r))
 
 module _ (P : Named → Bool) where
   pub sought-append : (l r : List Way) → sought P (l ++ r) ≡ lower (sought P l) (sought P r)
   unfolding sought
-  sought-append l r = ap lowest (select-join (λ w. P (w .names)) l r) ∙ lowest-append (select (λ w. P (w .names)) l) (select (λ w. P (w .names)) r)
+  sought-append l r = ap lowestWay (select-join (λ w. P (w .names)) l r) ∙ lowest-append (select (λ w. P (w .names)) l) (select (λ w. P (w .names)) r)
 
   pub sought-none : sought P [] ≡ Nothing
-  unfolding sought select lowest
+  unfolding sought select lowestWay
   sought-none = refl
 
   pub sought-one : (w : Way) → P (w .names) ≡ true → sought P (w ∷ []) ≡ Lowest w
-  unfolding lower sought select lowest
+  unfolding lower sought select lowestWay
   sought-one w e = rw e refl
 
   pub sought-not : (w : Way) → P (w .names) ≡ false → sought P (w ∷ []) ≡ Nothing
-  unfolding lower sought select lowest
+  unfolding lower sought select lowestWay
   sought-not w e = rw e refl
 
   -- a way that was tested
@@ -148,7 +148,7 @@ module _ (P : Named → Bool) where
   -- an entry that is looked for, and one that is not
   module _ (w : Way) (i e : ℕ) where
     abbrev through : List Way
-    through = map (further w i) (entryName (w .names) (Word e))
+    through = map (further w i) (entryNamed (w .names) (Word e))
 
     abbrev named : Named
     named = naming (w .names .level - 1) (pteBa e) (grantsWrite (pteR e))
@@ -205,26 +205,26 @@ own (Lowest v) w = go (ltb (page w) (page v)) refl
     go false q = rw q refl
 
 -- nothing among some ways is lower than what they and others come to
-lowest-all : (f : Found) (l : List Way) → all (λ w. notLower (lower f (lowest l)) (page w)) l ≡ true
-unfolding lower lowest all
+lowest-all : (f : Found) (l : List Way) → all (λ w. notLower (lower f (lowestWay l)) (page w)) l ≡ true
+unfolding lower lowestWay all
 lowest-all f [] = refl
-lowest-all f (w ∷ l) = rw (← lower-assoc f (Lowest w) (lowest l)) (and-both _ _ (still (lower f (Lowest w)) (lowest l) (page w) (own f w)) (lowest-all (lower f (Lowest w)) l))
+lowest-all f (w ∷ l) = rw (← lower-assoc f (Lowest w) (lowestWay l)) (and-both _ _ (still (lower f (Lowest w)) (lowestWay l) (page w) (own f w)) (lowest-all (lower f (Lowest w)) l))
 
 -- where nothing is lower, nothing else is found
-quiet-none : (f : Found) (l : List Way) → all (λ w. notLower f (page w)) l ≡ true → lower f (lowest l) ≡ f
-unfolding lower lowest all
+quiet-none : (f : Found) (l : List Way) → all (λ w. notLower f (page w)) l ≡ true → lower f (lowestWay l) ≡ f
+unfolding lower lowestWay all
 quiet-none f [] e = lower-none f
 quiet-none Nothing (w ∷ l) e = absurd (false≢true e)
 quiet-none (Lowest v) (w ∷ l) e =
     let h : ltb (page w) (page v) ≡ false = not-true (ltb (page w) (page v)) (and-left (not (ltb (page w) (page v))) _ e) in
-    sym (lower-assoc (Lowest v) (Lowest w) (lowest l)) ∙ ap (λ (z : Found). lower z (lowest l)) (same h) ∙ quiet-none (Lowest v) l (and-right (not (ltb (page w) (page v))) _ e)
+    sym (lower-assoc (Lowest v) (Lowest w) (lowestWay l)) ∙ ap (λ (z : Found). lower z (lowestWay l)) (same h) ∙ quiet-none (Lowest v) l (and-right (not (ltb (page w) (page v))) _ e)
   where
     same : ltb (page w) (page v) ≡ false → lower (Lowest v) (Lowest w) ≡ Lowest v
     same h = rw h refl
 
 -- ---- the entries of a table, whatever way leads to it
 
-entry-level : (x y : Named) (e : Entry) → x .level ≡ y .level → entryName x e ≡ entryName y e
+entry-level : (x y : Named) (e : Entry) → x .level ≡ y .level → entryNamed x e ≡ entryNamed y e
 entry-level x y (Word e) h = ap (λ (l : ℕ). if pteP e then naming (l - 1) (pteBa e) (grantsWrite (pteR e)) ∷ [] else []) h
 entry-level x y Missing h = refl
 
@@ -235,11 +235,11 @@ low-page x i = omega arith
 pub table-names : (m : List ℕ) (w : Way) → w .names .level ≡ 1 → map (λ (v : Way). v .names) (nextWays m w) ≡ tableNames m (page w % 2 ^ 20)
 unfolding nextWays tableNames
 table-names m w h =
-    map-flatMap (λ (v : Way). v .names) (λ (i : ℕ). map (further w i) (nextName m (w .names) i)) (range 1024)
-    ∙ flatMap-ext _ (nextName m (naming 1 (page w % 2 ^ 20) false)) (range 1024)
-    (λ i. map-map (λ (v : Way). v .names) (further w i) (nextName m (w .names) i)
-    ∙ map-id (nextName m (w .names) i)
-    ∙ ap (λ (a : ℕ). entryName (w .names) (entryAt m a)) (low-page (page w) i)
+    map-flatMap (λ (v : Way). v .names) (λ (i : ℕ). map (further w i) (nextNamed m (w .names) i)) (range 1024)
+    ∙ flatMap-ext _ (nextNamed m (naming 1 (page w % 2 ^ 20) false)) (range 1024)
+    (λ i. map-map (λ (v : Way). v .names) (further w i) (nextNamed m (w .names) i)
+    ∙ map-id (nextNamed m (w .names) i)
+    ∙ ap (λ (a : ℕ). entryNamed (w .names) (entryAt m a)) (low-page (page w) i)
     ∙ entry-level (w .names) (naming 1 (page w % 2 ^ 20) false) (entryAt m (pteaAt (page w % 2 ^ 20) i)) h)
 
 -- a test that all pass that are selected
@@ -323,7 +323,7 @@ ways-next F i = rw add-one (flatMap-append F (range i) (i ∷ []) ∙ ap (λ (z 
 
 -- the ways that go on by entry i; with those that go on from them
 abbrev pub entryWays : List ℕ → Way → ℕ → List Way
-entryWays m w i = map (further w i) (nextName m (w .names) i)
+entryWays m w i = map (further w i) (nextNamed m (w .names) i)
 
 abbrev pub onEntry : List ℕ → Way → ℕ → List Way
 onEntry m w i = throughEntry m w i (entryAt m (pteaAt (page w) i))
@@ -342,7 +342,7 @@ module _ (m : List ℕ) (n : ℕ) (long : length m ≡ 4096 * n) (few : n ≤ 40
   pub next-none : (w : Way) → n ≤ page w % 2 ^ 20 → nextWays m w ≡ []
   unfolding nextWays
   next-none w far =
-      flatMap-where (entryWays m w) (λ i. []) (range 1024) (λ i h. ap (λ (e : Entry). map (further w i) (entryName (w .names) e)) (no-entry (page w) i far (range-in 1024 i h)))
+      flatMap-where (entryWays m w) (λ i. []) (range 1024) (λ i h. ap (λ (e : Entry). map (further w i) (entryNamed (w .names) e)) (no-entry (page w) i far (range-in 1024 i h)))
       ∙ flatMap-none (λ (i : ℕ). []) (range 1024) (λ i. refl)
 
   module _ (P : Named → Bool) (f : Found) (w : Way) (low : page w % 2 ^ 20 < n) where
@@ -351,10 +351,10 @@ module _ (m : List ℕ) (n : ℕ) (long : length m ≡ 4096 * n) (few : n ≤ 40
     scan-start = sym (ap (lower f) (sought-none P) ∙ lower-none f)
 
     pub scan-next : (g h : Found) (i e : ℕ) → i < 1024 → e ≡ bytesAt 4 m (4096 * (page w % 2 ^ 20) + 4 * i) → g ≡ lower f (sought P (flatMap (entryWays m w) (range i)))
-        → h ≡ lower g (sought P (map (further w i) (entryName (w .names) (Word e)))) → h ≡ lower f (sought P (flatMap (entryWays m w) (range (i + 1))))
+        → h ≡ lower g (sought P (map (further w i) (entryNamed (w .names) (Word e)))) → h ≡ lower f (sought P (flatMap (entryWays m w) (range (i + 1))))
     scan-next g h i e lt r A B =
         B
-        ∙ ap (λ (z : Entry). lower g (sought P (map (further w i) (entryName (w .names) z)))) (ap Word r ∙ sym (read-entry (page w) i low lt))
+        ∙ ap (λ (z : Entry). lower g (sought P (map (further w i) (entryNamed (w .names) z)))) (ap Word r ∙ sym (read-entry (page w) i low lt))
         ∙ ap (λ (z : Found). lower z (sought P (entryWays m w i))) A
         ∙ lower-assoc f (sought P (flatMap (entryWays m w) (range i))) (sought P (entryWays m w i))
         ∙ ap (lower f) (sym (sought-append P (flatMap (entryWays m w) (range i)) (entryWays m w i)) ∙ ap (sought P) (sym (ways-next (entryWays m w) i)))
@@ -402,7 +402,7 @@ pub through-there : (m : List ℕ) (w v : Way) (i e : ℕ) (x : Named) (t : Bool
 unfolding throughEntry
 through-there m w v i e x t p q z y = ap (onward m 1) y ∙ sym (flatMap-one (onward m 1) (further w i x)) ∙ ap (λ (l : List Way). flatMap (onward m 1) l) (sym (there p q z))
   where
-    there : t ≡ pteP e → t ≡ true → x ≡ naming (w .names .level - 1) (pteBa e) (grantsWrite (pteR e)) → map (further w i) (entryName (w .names) (Word e)) ≡ further w i x ∷ []
+    there : t ≡ pteP e → t ≡ true → x ≡ naming (w .names .level - 1) (pteBa e) (grantsWrite (pteR e)) → map (further w i) (entryNamed (w .names) (Word e)) ≡ further w i x ∷ []
     there p q z = let h : pteP e ≡ true = sym p ∙ q in rw (h, z) refl
 
 pub through-absent : (m : List ℕ) (w : Way) (i e : ℕ) (t : Bool) → t ≡ pteP e → t ≡ false → [] ≡ throughEntry m w i (Word e)

@@ -1,14 +1,13 @@
 -- An answer in words, and its number.
 -- Assumes nothing.
-use mathlib.Core.Path.{_≡_, refl, sym, ap, ap₂, _∙_}
-use mathlib.Core.Bool.{Bool, true, false, not}
+use mathlib.Core.Path.{_≡_, refl, sym, ap, _∙_}
+use mathlib.Core.Bool.{true, false}
 use mathlib.Core.List.{List, [], _∷_}
-use Prim.Native.Nat.{ℕ, zero, suc, _+_, _-_, _≤_, _<_, _^_}
+use Prim.Native.Nat.{ℕ, zero, suc, _+_, _-_, _≤_}
 use native.Mathlib.Omega.{arith}
 use lib.Dec.{eqb}
 use lib.ListN.{length, set}
-use borrow.Author.Tests.{eq-eqb, ne-eqb}
-use Rattle.word.specs.Word.{if_then_else_, flag}
+use Rattle.word.specs.Word.{flag}
 use Rattle.tables.specs.Views.{coresOf}
 use Rattle.tables.specs.Sound.{sound}
 use Rattle.reach.specs.Lists.{range}
@@ -22,7 +21,7 @@ use Rattle.reasons.specs.declared.Side.{Side}
 use Rattle.reasons.specs.declared.Side.the-variants.{Group, Rest}
 use Rattle.reasons.specs.declared.Reason.{Reason}
 use Rattle.reasons.specs.declared.Reason.the-variants.{NoReason, Refused, NotUser, BeyondMemory, OwnTable, Touches}
-use Rattle.reasons.specs.Why.{page, lowest, byWay, fails, firstFailing, modeReason, beyondReason, tableReason, touchReason, reasonAt, sideNumber, whyNumber, firstAfter, whyAfter, rootNumber, recordNumber, coreWords, wayWords, whyWords, Told, told}
+use Rattle.reasons.specs.Why.{page, byWay, fails, firstFailing, modeReason, beyondReason, tableReason, touchReason, reasonAt, sideNumber, whyNumber, firstAfter, whyAfter, rootNumber, recordNumber, coreWords, wayWords, whyWords, told}
 use Rattle.reasons.specs.inner.Search.{beyondFound, tableFound, touchFound}
 
 -- nine words written one by one
@@ -84,10 +83,6 @@ Small a = whyNumber a ≤ 6
 by-small : (f : Way → Reason) → ((w : Way) → Small (f w)) → (x : Found) → Small (byWay f x)
 by-small f h Nothing = omega arith
 by-small f h (Lowest w) = h w
-
-side-small : (s : Side) → sideNumber s ≤ 1
-side-small Group = omega arith
-side-small Rest = omega arith
 
 mode-small : (g : ℕ) (t l : List ℕ) → Small (firstFailing g t l)
 unfolding firstFailing

@@ -24,30 +24,30 @@ abbrev pub naming : ℕ → ℕ → Bool → Named
 naming l p w = record { level = l; page = p; write = w }
 
 -- what a walk and a pending store name
-abbrev pub walkName : Walk → Named
-walkName w = naming (walkLevel w) (walkBa w) (grantsWrite (walkR w))
+abbrev pub walkNamed : Walk → Named
+walkNamed w = naming (walkLevel w) (walkBa w) (grantsWrite (walkR w))
 
-abbrev pub storeName : Store → Named
-storeName s = naming 0 (baseAddress (s .address)) true
+abbrev pub storeNamed : Store → Named
+storeNamed s = naming 0 (baseAddress (s .address)) true
 
 -- what a root of the block b names
-abbrev pub rootName : List ℕ → Root → Named
-rootName b AtOrigin = naming 2 (originOf b) false
-rootName b (AtWalk n) = walkName (walkIn b n)
-rootName b (AtStore n) = storeName (storeIn b n)
+abbrev pub rootNamed : List ℕ → Root → Named
+rootNamed b AtOrigin = naming 2 (originOf b) false
+rootNamed b (AtWalk n) = walkNamed (walkIn b n)
+rootNamed b (AtStore n) = storeNamed (storeIn b n)
 
 -- the roots of a block
 unfoldable pub roots : List ℕ → List Root
 roots b = AtOrigin ∷ (map AtWalk (walkNumbers b) ++ map AtStore (storeNumbers b))
 
 -- what an entry of a table names, which is itself named x
-abbrev pub entryName : Named → Entry → List Named
-entryName x (Word e) = if pteP e then naming (x .level - 1) (pteBa e) (grantsWrite (pteR e)) ∷ [] else []
-entryName x Missing = []
+abbrev pub entryNamed : Named → Entry → List Named
+entryNamed x (Word e) = if pteP e then naming (x .level - 1) (pteBa e) (grantsWrite (pteR e)) ∷ [] else []
+entryNamed x Missing = []
 
 -- entry i of the table
-abbrev pub nextName : List ℕ → Named → ℕ → List Named
-nextName m x i = entryName x (entryAt m (pteaAt (x .page) i))
+abbrev pub nextNamed : List ℕ → Named → ℕ → List Named
+nextNamed m x i = entryNamed x (entryAt m (pteaAt (x .page) i))
 
 -- ---- ways
 
@@ -58,11 +58,11 @@ entriesOf (suc zero) a b = a ∷ []
 entriesOf (suc (suc n)) a b = a ∷ (b ∷ [])
 
 -- the place in its table of the entry at address a; what that entry names, if it is one of the table that is named x
-abbrev pub placeOf : ℕ → ℕ
-placeOf a = a / 4 % 1024
+abbrev pub entryPlace : ℕ → ℕ
+entryPlace a = a / 4 % 1024
 
 abbrev pub namedAt : List ℕ → Named → ℕ → List Named
-namedAt m x a = if eqb (pteaAt (x .page) (placeOf a)) a then nextName m x (placeOf a) else []
+namedAt m x a = if eqb (pteaAt (x .page) (entryPlace a)) a then nextNamed m x (entryPlace a) else []
 
 -- what stands at the end of a way, followed entry by entry: nothing where an entry is absent, or none of the table
 unfoldable pub follow : List ℕ → Named → List ℕ → List Named
@@ -70,11 +70,11 @@ follow m x [] = x ∷ []
 follow m x (a ∷ l) = flatMap (λ (y : Named). follow m y l) (namedAt m x a)
 
 abbrev pub followed : List ℕ → List ℕ → Way → List Named
-followed t m w = follow m (rootName (block t (w .core)) (w .root)) (entriesOf (w .entries) (w .first) (w .second))
+followed t m w = follow m (rootNamed (block t (w .core)) (w .root)) (entriesOf (w .entries) (w .first) (w .second))
 
 -- the way that ends where it begins, at a root of core k's block b; one that goes on by entry i, which names x
 abbrev pub rootWay : List ℕ → ℕ → Root → Way
-rootWay b k r = record { core = k; root = r; entries = 0; first = 0; second = 0; names = rootName b r }
+rootWay b k r = record { core = k; root = r; entries = 0; first = 0; second = 0; names = rootNamed b r }
 
 abbrev pub further : Way → ℕ → Named → Way
 further w i x =
@@ -89,7 +89,7 @@ further w i x =
 
 -- the ways that go on from w by one entry
 unfoldable pub nextWays : List ℕ → Way → List Way
-nextWays m w = flatMap (λ (i : ℕ). map (further w i) (nextName m (w .names) i)) (range 1024)
+nextWays m w = flatMap (λ (i : ℕ). map (further w i) (nextNamed m (w .names) i)) (range 1024)
 
 -- w and all that go on from it, n levels down
 unfoldable pub onward : List ℕ → ℕ → Way → List Way

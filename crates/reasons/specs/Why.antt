@@ -1,6 +1,6 @@
 -- Reason a group is not apart: the first reason in the order of 01's conditions ('Apart'), with the lowest page at fault and a way to it.
 -- Assumes nothing.
-use mathlib.Core.Bool.{Bool, true, false, _&&_, _||_, not}
+use mathlib.Core.Bool.{Bool, _&&_, _||_, not}
 use mathlib.Core.List.{List, [], _∷_}
 use Prim.Native.Nat.{ℕ, zero, suc, _+_, _-_}
 use lib.Dec.{eqb, ltb}
@@ -10,7 +10,7 @@ use Rattle.layout.specs.Blocks.{block}
 use Rattle.tables.specs.Views.{coresOf, pagesOf, runs}
 use Rattle.tables.specs.Sound.{sound}
 use Rattle.reach.specs.Lists.{range, has, select}
-use Rattle.reach.specs.Reach.{Pages, isGroup, members, reach, tablePages, reached}
+use Rattle.reach.specs.Reach.{isGroup, members, reach, tablePages, reached}
 use Rattle.separation.specs.Apart.{rest, runsAsUser}
 use Rattle.reasons.specs.declared.Root.{Root}
 use Rattle.reasons.specs.declared.Root.the-variants.{AtOrigin, AtWalk, AtStore}
@@ -33,9 +33,9 @@ lower Nothing b = b
 lower (Lowest v) Nothing = Lowest v
 lower (Lowest v) (Lowest w) = if ltb (page w) (page v) then Lowest w else Lowest v
 
-unfoldable pub lowest : List Way → Found
-lowest [] = Nothing
-lowest (w ∷ l) = lower (Lowest w) (lowest l)
+unfoldable pub lowestWay : List Way → Found
+lowestWay [] = Nothing
+lowestWay (w ∷ l) = lower (Lowest w) (lowestWay l)
 
 -- ---- reasons
 
@@ -63,18 +63,18 @@ modeReason g t = firstFailing g t (range (coresOf t))
 
 -- a side is its cores cs
 unfoldable pub beyondReason : Side → List ℕ → List ℕ → List ℕ → Reason
-beyondReason s cs t m = byWay (BeyondMemory s) (lowest (select (λ w. not (ltb (page w) (pagesOf t))) (ways cs t m)))
+beyondReason s cs t m = byWay (BeyondMemory s) (lowestWay (select (λ w. not (ltb (page w) (pagesOf t))) (ways cs t m)))
 
 unfoldable pub tableReason : Side → List ℕ → List ℕ → List ℕ → Reason
 tableReason s cs t m =
     byWay (OwnTable s)
-    (lowest (select (λ w. grants w && (ltb (page w) (pagesOf t) && has (page w) (tablePages (reach cs t m)))) (ways cs t m)))
+    (lowestWay (select (λ w. grants w && (ltb (page w) (pagesOf t) && has (page w) (tablePages (reach cs t m)))) (ways cs t m)))
 
 -- the group's cores and the others'
 unfoldable pub touchReason : List ℕ → List ℕ → List ℕ → List ℕ → Reason
 touchReason cs os t m =
     byWay Touches
-    (lowest (select (λ w. spoils w && (ltb (page w) (pagesOf t) && has (page w) (reached (reach cs t m)))) (ways os t m)))
+    (lowestWay (select (λ w. spoils w && (ltb (page w) (pagesOf t) && has (page w) (reached (reach cs t m)))) (ways os t m)))
 
 -- the reasons in their order, by numbers 1 to 6
 unfoldable pub reasonAt : ℕ → List ℕ → List ℕ → ℕ → Reason

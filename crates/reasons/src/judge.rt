@@ -84,7 +84,7 @@ fn is_fault(kind: u32, own: u8, other: u8) -> bool
 // Marks the pages at fault, and gives the lowest of them; the number of pages where there is none.
 fn mark_faults(kind: u32, own: &[u8], other: &[u8], marks: &mut [u8]) -> u32
     requires { ⌜ (length (now own) ≡ length (now marks)) × (length (now other) ≡ length (now marks)) × (length (now marks) ≤ 4096) ⌝ }
-    ensures { λ r. ⌜ y.Marked kind (now (own .entry)) (now (other .entry)) (now (marks .entry)) (now (marks .exit)) r ⌝ }
+    ensures { λ r. ⌜ y.FaultsMarked kind (now (own .entry)) (now (other .entry)) (now (marks .entry)) (now (marks .exit)) r ⌝ }
 {
     let mut i = marks.len();
     let mut low = i as u32;

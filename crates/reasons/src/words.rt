@@ -3,7 +3,6 @@ use super::Reason;
 use super::Root;
 use super::Way;
 ghost use mathlib.Core.Path.{_≡_};
-ghost use mathlib.Core.List.{[], _∷_};
 ghost use lib.ListN.{length};
 ghost use Rattle.reasons.specs.Why as x;
 

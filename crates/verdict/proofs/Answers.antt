@@ -24,16 +24,16 @@ use Rattle.reasons.proofs.None.{no-reason}
 use Rattle.reasons.proofs.Telling.{judged}
 use Rattle.verdict.specs.Reasons.{wayOf, reasonText, reasonLines}
 use Rattle.verdict.specs.Wrong.{refusedText}
-use Rattle.verdict.specs.Report.{shownSides, sidesText, Answered}
-use Rattle.verdict.specs.inner.Left.{Left}
+use Rattle.verdict.specs.Report.{shownSides, sidesText, Reported}
+use Rattle.verdict.specs.inner.Lines.{LinesLeft}
 use Rattle.verdict.proofs.Marks.{nothing}
 
 -- ---- reasons, line by line
 
-pub first-line : (whole b : List ℕ) (at : ℕ) → Left whole b at at b whole
+pub first-line : (whole b : List ℕ) (at : ℕ) → LinesLeft whole b at at b whole
 first-line whole b at = record { text = []; put = nothing b at; parts = refl }
 
-pub all-lines : {whole b : List ℕ} {at r : ℕ} {c left : List ℕ} → left ≡ [] → Left whole b at r c left → Put b at whole r c
+pub all-lines : {whole b : List ℕ} {at r : ℕ} {c left : List ℕ} → left ≡ [] → LinesLeft whole b at r c left → Put b at whole r c
 all-lines {whole} {b} {at} {r} {c} {left} e l = reworded (sym (append-nil (l .text)) ∙ ap (λ (x : List ℕ). l .text ++ x) (sym e) ∙ l .parts) (l .put)
 
 module _ (g : ℕ) (t m : List ℕ) (s : sound t (length m) ≡ true) (i : isGroup g (coresOf t) ≡ true) where
@@ -50,14 +50,14 @@ module _ (g : ℕ) (t m : List ℕ) (s : sound t (length m) ≡ true) (i : isGro
     unfolding reasonLines
     next-line w q z = rw (after-is a r e, ne-eqb (whyNumber r) 0 (λ u. z (p ∙ u)), p, q) refl
 
-  module _ (k a n : ℕ) (r : Reason) (e : r ≡ firstAfter g t m (6 - a) a) (p : n ≡ whyNumber r) (h : k < 6) {whole b : List ℕ} {at u : ℕ} {c : List ℕ} (L : Left whole b at u c (reasonLines (6 - k) a g t m)) where
+  module _ (k a n : ℕ) (r : Reason) (e : r ≡ firstAfter g t m (6 - a) a) (p : n ≡ whyNumber r) (h : k < 6) {whole b : List ℕ} {at u : ℕ} {c : List ℕ} (L : LinesLeft whole b at u c (reasonLines (6 - k) a g t m)) where
     left : 6 - k ≡ suc (6 - (k + 1))
     left = omega arith
 
     pub line-done : n ≡ 0 → Put b at whole u c
     line-done z = all-lines (ap (λ (d : ℕ). reasonLines d a g t m) left ∙ no-line (6 - (k + 1)) a n r e p z) L
 
-    pub line-more : (w : List ℕ) → w ≡ whyWords r → n ≢ 0 → {v : ℕ} {d : List ℕ} → Put c u (reasonText n (wayOf w)) v d → Left whole b at v d (reasonLines (6 - (k + 1)) n g t m)
+    pub line-more : (w : List ℕ) → w ≡ whyWords r → n ≢ 0 → {v : ℕ} {d : List ℕ} → Put c u (reasonText n (wayOf w)) v d → LinesLeft whole b at v d (reasonLines (6 - (k + 1)) n g t m)
     line-more w q z P =
         record {
           text = L .text ++ reasonText n (wayOf w);
@@ -65,7 +65,7 @@ module _ (g : ℕ) (t m : List ℕ) (s : sound t (length m) ≡ true) (i : isGro
           parts = append-assoc (L .text) (reasonText n (wayOf w)) (reasonLines (6 - (k + 1)) n g t m) ∙ ap (λ (x : List ℕ). L .text ++ x) (sym (ap (λ (d : ℕ). reasonLines d a g t m) left ∙ next-line (6 - (k + 1)) a n r e p w q z)) ∙ L .parts;
         }
 
-  pub line-last : (k a : ℕ) → 6 ≤ k → {whole b : List ℕ} {at r : ℕ} {c : List ℕ} → Left whole b at r c (reasonLines (6 - k) a g t m) → Put b at whole r c
+  pub line-last : (k a : ℕ) → 6 ≤ k → {whole b : List ℕ} {at r : ℕ} {c : List ℕ} → LinesLeft whole b at r c (reasonLines (6 - k) a g t m) → Put b at whole r c
   unfolding reasonLines
   line-last k a h L = let e : 6 - k ≡ 0 = omega arith in all-lines (ap (λ (d : ℕ). reasonLines d a g t m) e) L
 
@@ -99,18 +99,18 @@ module _ (g r : ℕ) (t m own other : List ℕ) (e : own ≡ mapFor (members g (
 
 module _ (g : ℕ) (t m : List ℕ) where
   pub answered-yes :
-      {b : List ℕ} {r : ℕ} {c : List ℕ} → apartOn g t m ≡ Yes → Put b 0 (sidesText g t m ++ ascii "apart\n") r c → Answered (apartOn g t m) b g t m r c
-  unfolding Answered
-  answered-yes {b} {r} {c} e p = subst (λ (v : Verdict). Answered v b g t m r c) (sym e) p
+      {b : List ℕ} {r : ℕ} {c : List ℕ} → apartOn g t m ≡ Yes → Put b 0 (sidesText g t m ++ ascii "apart\n") r c → Reported (apartOn g t m) b g t m r c
+  unfolding Reported
+  answered-yes {b} {r} {c} e p = subst (λ (v : Verdict). Reported v b g t m r c) (sym e) p
 
   pub answered-no :
       {b : List ℕ} {p : ℕ} {c : List ℕ} {q : ℕ} {d : List ℕ} {r : ℕ} {f : List ℕ} → apartOn g t m ≡ No → Put b 0 (sidesText g t m) p c
-      → Put c p (reasonLines 6 0 g t m) q d → Put d q (ascii "not apart\n") r f → Answered (apartOn g t m) b g t m r f
-  unfolding Answered
-  answered-no {b} {p} {c} {q} {d} {r} {f} e x y z = subst (λ (v : Verdict). Answered v b g t m r f) (sym e) (follow (follow x y) z)
+      → Put c p (reasonLines 6 0 g t m) q d → Put d q (ascii "not apart\n") r f → Reported (apartOn g t m) b g t m r f
+  unfolding Reported
+  answered-no {b} {p} {c} {q} {d} {r} {f} e x y z = subst (λ (v : Verdict). Reported v b g t m r f) (sym e) (follow (follow x y) z)
 
   module _ (n : ℕ) where
     pub answered-refused :
-        {b : List ℕ} {r : ℕ} {c : List ℕ} → apartOn g t m ≡ Refused n → Put b 0 (refusedText n) r c → Answered (apartOn g t m) b g t m r c
-    unfolding Answered
-    answered-refused {b} {r} {c} e p = subst (λ (v : Verdict). Answered v b g t m r c) (sym e) p
+        {b : List ℕ} {r : ℕ} {c : List ℕ} → apartOn g t m ≡ Refused n → Put b 0 (refusedText n) r c → Reported (apartOn g t m) b g t m r c
+    unfolding Reported
+    answered-refused {b} {r} {c} e p = subst (λ (v : Verdict). Reported v b g t m r c) (sym e) p

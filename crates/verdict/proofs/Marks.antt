@@ -11,7 +11,7 @@ use lib.Seq.{drop-cons}
 use Rattle.word.specs.Word.{flag}
 use Rattle.text.specs.Text.{Put}
 use Rattle.text.proofs.Texts.{none, then-byte, reworded}
-use Rattle.verdict.specs.Pages.{countOf, reached, written, table, spoils, markOf, marks, row, rows}
+use Rattle.verdict.specs.Pages.{countOf, isReached, canWrite, isTable, pageSpoils, markOf, markRow, row, rows}
 
 pub nothing : (b : List ℕ) (at : ℕ) → Put b at [] at b
 nothing b at =
@@ -42,24 +42,24 @@ count-ends p l i n h q =
 
 -- the test, as the code makes it
 pub spoiled :
-    (x y : ℕ) {a b c d e f g : Bool} → a ≡ written x → b ≡ table x → c ≡ written y → d ≡ table y → e ≡ reached x → f ≡ written y → g ≡ table y
-    → ((a && b) || (c && d)) || (e && (f || g)) ≡ spoils x y
-unfolding spoils
-spoiled x y {a} {b} {c} {d} {e} {f} {g} p q r s t u v = rw (p, q, r, s, t, u, v) (grouped (written x && table x) (written y && table y) (reached x && (written y || table y)))
+    (x y : ℕ) {a b c d e f g : Bool} → a ≡ canWrite x → b ≡ isTable x → c ≡ canWrite y → d ≡ isTable y → e ≡ isReached x → f ≡ canWrite y → g ≡ isTable y
+    → ((a && b) || (c && d)) || (e && (f || g)) ≡ pageSpoils x y
+unfolding pageSpoils
+spoiled x y {a} {b} {c} {d} {e} {f} {g} p q r s t u v = rw (p, q, r, s, t, u, v) (grouped (canWrite x && isTable x) (canWrite y && isTable y) (isReached x && (canWrite y || isTable y)))
   where
     grouped : (a b c : Bool) → (a || b) || c ≡ a || (b || c)
     grouped true b c = refl
     grouped false b c = refl
 
 pub marks-more :
-    (b : List ℕ) (at : ℕ) (own other : List ℕ) (a i : ℕ) (c : List ℕ) (v : ℕ) → Put b at (marks own other a i) (at + i) c → at + i < length c
-    → v ≡ markOf (getD own (a + i) 0) (getD other (a + i) 0) → Put b at (marks own other a (i + 1)) (at + (i + 1)) (set c (at + i) v)
-unfolding marks
+    (b : List ℕ) (at : ℕ) (own other : List ℕ) (a i : ℕ) (c : List ℕ) (v : ℕ) → Put b at (markRow own other a i) (at + i) c → at + i < length c
+    → v ≡ markOf (getD own (a + i) 0) (getD other (a + i) 0) → Put b at (markRow own other a (i + 1)) (at + (i + 1)) (set c (at + i) v)
+unfolding markRow
 marks-more b at own other a i c v p h e =
     let k : at + i + 1 ≡ at + (i + 1) = omega arith in
-    let m : marks own other a i ++ (v ∷ []) ≡ marks own other a (i + 1)
-    = ap (λ (w : ℕ). marks own other a i ++ (w ∷ [])) e ∙ ap (marks own other a) (sym (add-one i)) in
-    reworded m (subst (λ (r : ℕ). Put b at (marks own other a i ++ (v ∷ [])) r (set c (at + i) v)) k (then-byte b at (marks own other a i) (at + i) c v p h))
+    let m : markRow own other a i ++ (v ∷ []) ≡ markRow own other a (i + 1)
+    = ap (λ (w : ℕ). markRow own other a i ++ (w ∷ [])) e ∙ ap (markRow own other a) (sym (add-one i)) in
+    reworded m (subst (λ (r : ℕ). Put b at (markRow own other a i ++ (v ∷ [])) r (set c (at + i) v)) k (then-byte b at (markRow own other a i) (at + i) c v p h))
 
 pub rows-more : (own other : List ℕ) (n : ℕ) → rows own other n ++ row own other n ≡ rows own other (n + 1)
 unfolding rows

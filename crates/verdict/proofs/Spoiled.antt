@@ -12,7 +12,7 @@ use Rattle.records.specs.Records.{all}
 use Rattle.reach.specs.Lists.{range, has}
 use Rattle.reach.proofs.Lists.{has-append, all-append}
 use Rattle.separation.specs.inner.Sides.{pageApart}
-use Rattle.verdict.specs.Pages.{reached, written, table, spoils, letterOf, markOf, marks}
+use Rattle.verdict.specs.Pages.{isReached, canWrite, isTable, pageSpoils, letterOf, markOf, markRow}
 
 -- by the bits 1 and 2 of the one byte and of the other, and whether the one is zero
 tested :
@@ -41,8 +41,8 @@ tested false false false true false = refl
 tested false false false false true = refl
 tested false false false false false = refl
 
-pub spoils-or-apart : (x y : ℕ) → spoils x y ≡ not (pageApart x y)
-unfolding spoils pageApart
+pub spoils-or-apart : (x y : ℕ) → pageSpoils x y ≡ not (pageApart x y)
+unfolding pageSpoils pageApart
 spoils-or-apart x y = tested (isSet x 1) (isSet x 2) (isSet y 1) (isSet y 2) (eqb x 0)
 
 bang :
@@ -73,9 +73,9 @@ bang false false true p tx wx false true = refl
 bang false false true p tx wx false false = refl
 bang false false false p tx wx ty wy = refl
 
-pub mark-spoils : (x y : ℕ) → eqb 33 (markOf x y) ≡ spoils x y
+pub mark-spoils : (x y : ℕ) → eqb 33 (markOf x y) ≡ pageSpoils x y
 unfolding markOf letterOf
-mark-spoils x y = bang (spoils x y) (reached x) (reached y) (written x || table x) (table x) (written x) (table y) (written y)
+mark-spoils x y = bang (pageSpoils x y) (isReached x) (isReached y) (canWrite x || isTable x) (isTable x) (canWrite x) (isTable y) (canWrite y)
 
 negated : (h m t : Bool) → m ≡ not t → not (h || (m || false)) ≡ not h && (t && true)
 negated true m t e = refl
@@ -86,15 +86,15 @@ negated false false false e = sym e
 
 pub none-spoils :
     (own other : List ℕ) (n : ℕ)
-    → not (has 33 (marks own other 0 n)) ≡ all (λ (i : ℕ). pageApart (getD own i 0) (getD other i 0)) (range n)
-unfolding has marks range all
+    → not (has 33 (markRow own other 0 n)) ≡ all (λ (i : ℕ). pageApart (getD own i 0) (getD other i 0)) (range n)
+unfolding has markRow range all
 none-spoils own other zero = refl
 none-spoils own other (suc n) =
     let k : 0 + n ≡ n = omega arith in
     let x : ℕ = getD own (0 + n) 0 in
     let y : ℕ = getD other (0 + n) 0 in
     let t : ℕ → Bool = λ (i : ℕ). pageApart (getD own i 0) (getD other i 0) in
-    ap not (has-append 33 (marks own other 0 n) (markOf x y ∷ []))
-    ∙ negated (has 33 (marks own other 0 n)) (eqb 33 (markOf x y)) (t (0 + n)) (mark-spoils x y ∙ spoils-or-apart x y)
+    ap not (has-append 33 (markRow own other 0 n) (markOf x y ∷ []))
+    ∙ negated (has 33 (markRow own other 0 n)) (eqb 33 (markOf x y)) (t (0 + n)) (mark-spoils x y ∙ spoils-or-apart x y)
     ∙ ap₂ (λ (a b : Bool). a && (b && true)) (none-spoils own other n) (ap t k)
     ∙ sym (all-append t (range n) (n ∷ []))

@@ -6,7 +6,7 @@ use lib.Dec.{eqb}
 use lib.ListN.{length}
 use Rattle.word.specs.Word.{if_then_else_}
 use Rattle.text.specs.Text.{ascii, decimal}
-use Rattle.verdict.specs.Pages.{countOf, reached, written, table}
+use Rattle.verdict.specs.Pages.{countOf, isReached, canWrite, isTable}
 
 -- a core's number is a digit; each has a blank before it
 unfoldable pub listed : List ℕ → List ℕ
@@ -28,8 +28,8 @@ tablesText n = decimal n ++ (if eqb n 1 then ascii " as a table" else ascii " as
 -- how many pages of a map are reached, written and used as tables
 unfoldable pub tallyText : List ℕ → List ℕ
 tallyText map =
-    ascii "; reaches " ++ pagesText (countOf reached map) ++ ascii ", writes " ++ decimal (countOf written map) ++ ascii ", uses "
-    ++ tablesText (countOf table map)
+    ascii "; reaches " ++ pagesText (countOf isReached map) ++ ascii ", writes " ++ decimal (countOf canWrite map) ++ ascii ", uses "
+    ++ tablesText (countOf isTable map)
     ++ ascii "\n"
 
 -- a side by its name, its cores and its map

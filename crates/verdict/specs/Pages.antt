@@ -10,14 +10,14 @@ use Rattle.word.specs.Word.{if_then_else_, isSet, flag}
 use Rattle.text.specs.Text.{ascii, padded}
 
 -- a byte of a map: 2 for a table, 1 for a data page, 4 for a writable page
-abbrev pub reached : ℕ → Bool
-reached x = not (eqb x 0)
+abbrev pub isReached : ℕ → Bool
+isReached x = not (eqb x 0)
 
-abbrev pub written : ℕ → Bool
-written x = isSet x 2
+abbrev pub canWrite : ℕ → Bool
+canWrite x = isSet x 2
 
-abbrev pub table : ℕ → Bool
-table x = isSet x 1
+abbrev pub isTable : ℕ → Bool
+isTable x = isSet x 1
 
 -- how many pages pass a test
 unfoldable pub countOf : (ℕ → Bool) → List ℕ → ℕ
@@ -26,33 +26,33 @@ countOf p (x ∷ l) = flag (p x) + countOf p l
 
 -- a page whose byte is x for the group and y for the rest spoils the verdict: one side both writes it and uses it as a table, or the group
 -- reaches it and the rest writes it or uses it as a table
-unfoldable pub spoils : ℕ → ℕ → Bool
-spoils x y = (written x && table x) || ((written y && table y) || (reached x && (written y || table y)))
+unfoldable pub pageSpoils : ℕ → ℕ → Bool
+pageSpoils x y = (canWrite x && isTable x) || ((canWrite y && isTable y) || (isReached x && (canWrite y || isTable y)))
 
 -- what one side does with a page that it reaches: a table before a writable page before any other
 unfoldable pub letterOf : ℕ → ℕ → ℕ → ℕ → ℕ
-letterOf x t w r = if table x then t else if written x then w else r
+letterOf x t w r = if isTable x then t else if canWrite x then w else r
 
 -- the mark of such a page
 unfoldable pub markOf : ℕ → ℕ → ℕ
 markOf x y =
-    if spoils x y then code "!"
-    else if reached x then
-    if reached y then
-    if written x || table x then code "+"
+    if pageSpoils x y then code "!"
+    else if isReached x then
+    if isReached y then
+    if canWrite x || isTable x then code "+"
     else code "="
     else letterOf x (code "t") (code "w") (code "r")
-    else if reached y then letterOf y (code "T") (code "W") (code "R")
+    else if isReached y then letterOf y (code "T") (code "W") (code "R")
     else code "."
 
 -- the marks of n pages from page a on
-unfoldable pub marks : List ℕ → List ℕ → ℕ → ℕ → List ℕ
-marks own other a zero = []
-marks own other a (suc n) = marks own other a n ++ (markOf (getD own (a + n) 0) (getD other (a + n) 0) ∷ [])
+unfoldable pub markRow : List ℕ → List ℕ → ℕ → ℕ → List ℕ
+markRow own other a zero = []
+markRow own other a (suc n) = markRow own other a n ++ (markOf (getD own (a + n) 0) (getD other (a + n) 0) ∷ [])
 
 -- row n: the number of its first page and the marks of up to 64
 unfoldable pub row : List ℕ → List ℕ → ℕ → List ℕ
-row own other n = padded 4 (64 * n) ++ ascii " " ++ marks own other (64 * n) (min 64 (length own - 64 * n)) ++ ascii "\n"
+row own other n = padded 4 (64 * n) ++ ascii " " ++ markRow own other (64 * n) (min 64 (length own - 64 * n)) ++ ascii "\n"
 
 -- the first n rows, and all
 unfoldable pub rows : List ℕ → List ℕ → ℕ → List ℕ

@@ -1,12 +1,13 @@
 -- The line for a reason why a group is not apart.
 -- Assumes nothing.
 use mathlib.Core.List.{List, [], _++_}
-use Prim.Native.Nat.{ℕ, zero, suc, _+_, _*_, _/_, _%_}
+use Prim.Native.Nat.{ℕ, zero, suc, _+_, _*_}
 use lib.Dec.{eqb}
 use lib.ListN.{getD}
 use Rattle.word.specs.Word.{if_then_else_}
 use Rattle.io.specs.Digits.{digits}
 use Rattle.text.specs.Text.{ascii, decimal}
+use Rattle.reasons.specs.Ways.{entryPlace}
 use Rattle.reasons.specs.Why.{whyNumber, whyAfter, whyWords}
 use Rattle.verdict.specs.declared.reason.Way.{Way}
 
@@ -24,17 +25,13 @@ wayOf w =
       second = getD w 8 0;
     }
 
--- the place of an entry in its table, by its address
-abbrev pub placeOf : ℕ → ℕ
-placeOf a = a / 4 % 1024
-
 -- the virtual page, or the first and the last, that entries of the tables from pto on translate
 abbrev pub virtualText : Way → List ℕ
 virtualText w =
     if eqb (w .entries) 0 then ascii ", the page in pto"
     else if eqb (w .entries) 1 then
-    ascii ", virtual pages " ++ digits 16 5 (placeOf (w .first) * 1024) ++ ascii " to " ++ digits 16 5 (placeOf (w .first) * 1024 + 1023)
-    else ascii ", virtual page " ++ digits 16 5 (placeOf (w .first) * 1024 + placeOf (w .second))
+    ascii ", virtual pages " ++ digits 16 5 (entryPlace (w .first) * 1024) ++ ascii " to " ++ digits 16 5 (entryPlace (w .first) * 1024 + 1023)
+    else ascii ", virtual page " ++ digits 16 5 (entryPlace (w .first) * 1024 + entryPlace (w .second))
 
 -- where a way begins
 unfoldable pub startText : Way → List ℕ

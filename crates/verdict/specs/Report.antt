@@ -23,7 +23,7 @@ sidesText g t m =
     shownSides (members g (coresOf t)) (rest g t) (mapFor (members g (coresOf t)) t m) (mapFor (rest g t) t m)
 
 -- bytes b are c after what is said of a verdict, up to place r; there are at most six reasons
-unfoldable pub Answered : Verdict → List ℕ → ℕ → List ℕ → List ℕ → ℕ → List ℕ → Type 0
-Answered (Refused n) b g t m r c = Put b 0 (refusedText n) r c
-Answered Yes b g t m r c = Put b 0 (sidesText g t m ++ ascii "apart\n") r c
-Answered No b g t m r c = Put b 0 (sidesText g t m ++ reasonLines 6 0 g t m ++ ascii "not apart\n") r c
+unfoldable pub Reported : Verdict → List ℕ → ℕ → List ℕ → List ℕ → ℕ → List ℕ → Type 0
+Reported (Refused n) b g t m r c = Put b 0 (refusedText n) r c
+Reported Yes b g t m r c = Put b 0 (sidesText g t m ++ ascii "apart\n") r c
+Reported No b g t m r c = Put b 0 (sidesText g t m ++ reasonLines 6 0 g t m ++ ascii "not apart\n") r c

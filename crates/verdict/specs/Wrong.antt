@@ -9,8 +9,8 @@ use Rattle.word.specs.Word.{if_then_else_}
 use Rattle.text.specs.Text.{ascii, decimal}
 
 -- the core that an argument names: one digit from 0 to 3; 4 stands for none
-unfoldable pub coreOf : List ℕ → ℕ
-coreOf s = if eqb (length s) 1 && (leb 48 (getD s 0 0) && leb (getD s 0 0) 51) then getD s 0 0 - 48 else 4
+unfoldable pub namedCore : List ℕ → ℕ
+namedCore s = if eqb (length s) 1 && (leb 48 (getD s 0 0) && leb (getD s 0 0) 51) then getD s 0 0 - 48 else 4
 
 -- a byte as it is shown: a printable one, or a question mark
 abbrev pub shown : ℕ → ℕ

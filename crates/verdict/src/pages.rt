@@ -14,19 +14,19 @@ pub struct Tally {
 }
 
 fn is_reached(byte: u8) -> bool
-    ensures { λ r. ⌜ r ≡ x.reached byte ⌝ }
+    ensures { λ r. ⌜ r ≡ x.isReached byte ⌝ }
 {
     byte != 0
 }
 
 fn is_written(byte: u8) -> bool
-    ensures { λ r. ⌜ r ≡ x.written byte ⌝ }
+    ensures { λ r. ⌜ r ≡ x.canWrite byte ⌝ }
 {
     byte / 4 % 2 == 1
 }
 
 fn is_table(byte: u8) -> bool
-    ensures { λ r. ⌜ r ≡ x.table byte ⌝ }
+    ensures { λ r. ⌜ r ≡ x.isTable byte ⌝ }
 {
     byte / 2 % 2 == 1
 }
@@ -34,7 +34,7 @@ fn is_table(byte: u8) -> bool
 // How many pages of a map are reached, written and used as tables.
 pub fn tally_of(map: &[u8]) -> Tally
     requires { ⌜ length (now map) ≤ 4096 ⌝ }
-    ensures { λ r. ⌜ (r .reached ≡ x.countOf x.reached (now (map .entry))) × (r .written ≡ x.countOf x.written (now (map .entry))) × (r .tables ≡ x.countOf x.table (now (map .entry))) ⌝ }
+    ensures { λ r. ⌜ (r .reached ≡ x.countOf x.isReached (now (map .entry))) × (r .written ≡ x.countOf x.canWrite (now (map .entry))) × (r .tables ≡ x.countOf x.isTable (now (map .entry))) ⌝ }
 {
     let mut reached: u32 = 0;
     let mut written: u32 = 0;
@@ -56,7 +56,7 @@ pub fn tally_of(map: &[u8]) -> Tally
 
 // Whether a page spoils the verdict.
 fn spoils(own: u8, other: u8) -> bool
-    ensures { λ r. ⌜ r ≡ x.spoils own other ⌝ }
+    ensures { λ r. ⌜ r ≡ x.pageSpoils own other ⌝ }
 {
     let alone = (is_written(own) & is_table(own)) | (is_written(other) & is_table(other));
     alone | (is_reached(own) & (is_written(other) | is_table(other)))
@@ -99,7 +99,7 @@ fn mark(own: u8, other: u8) -> u8
 // The marks of n pages from page a on.
 fn put_marks(out: &mut [u8], at: usize, own: &[u8], other: &[u8], a: usize, n: usize) -> usize
     requires { ⌜ (at + n ≤ length (now out)) × (a + n ≤ length (now own)) × (a + n ≤ length (now other)) ⌝ }
-    ensures { λ r. ⌜ Put (now (out .entry)) at (x.marks (now (own .entry)) (now (other .entry)) a n) r (now (out .exit)) × (r ≡ at + n) ⌝ }
+    ensures { λ r. ⌜ Put (now (out .entry)) at (x.markRow (now (own .entry)) (now (other .entry)) a n) r (now (out .exit)) × (r ≡ at + n) ⌝ }
 {
     let mut i: usize = 0;
     while i < n {

@@ -15,7 +15,7 @@ ghost use Rattle.separation.specs.Apart.{apartOn};
 ghost use Rattle.reasons.specs.inner.Search.{Sides};
 ghost use Rattle.verdict.specs.Reasons.{reasonLines};
 ghost use Rattle.verdict.specs.Report as x;
-ghost use Rattle.verdict.specs.inner.Left as y;
+ghost use Rattle.verdict.specs.inner.Lines as y;
 
 // The sides and the picture, by the map of each side: at most 5,998 bytes.
 fn put_sides(
@@ -87,7 +87,7 @@ fn put_all(
 ) -> usize
     requires { ⌜ (sound (now t) (length (now m)) ≡ true) × (isGroup group (coresOf (now t)) ≡ true) × (8192 ≤ length (now out)) ⌝ }
     requires { ⌜ Sides group others (now t) (now m) (now own) (now other) strays astray ⌝ }
-    ensures { λ r. ⌜ x.Answered (apartOn group (now (t .entry)) (now (m .entry))) (now (out .entry)) group (now (t .entry)) (now (m .entry)) r (now (out .exit)) × (r ≤ 8192) ⌝ }
+    ensures { λ r. ⌜ x.Reported (apartOn group (now (t .entry)) (now (m .entry))) (now (out .entry)) group (now (t .entry)) (now (m .entry)) r (now (out .exit)) × (r ≤ 8192) ⌝ }
 {
     let p = put_sides(out, t, m, group, others, own, other);
     let r = reasons::judge::first_after(t, m, group, others, own, other, strays, astray, 0);
@@ -109,7 +109,7 @@ fn put_with_maps(
 ) -> usize
     requires { ⌜ (sound (now t) (length (now m)) ≡ true) × (isGroup group (coresOf (now t)) ≡ true) × (8192 ≤ length (now out)) ⌝ }
     requires { ⌜ (length (now own) ≡ pagesOf (now t)) × (length (now other) ≡ pagesOf (now t)) ⌝ }
-    ensures { λ r. ⌜ x.Answered (apartOn group (now (t .entry)) (now (m .entry))) (now (out .entry)) group (now (t .entry)) (now (m .entry)) r (now (out .exit)) × (r ≤ 8192) ⌝ }
+    ensures { λ r. ⌜ x.Reported (apartOn group (now (t .entry)) (now (m .entry))) (now (out .entry)) group (now (t .entry)) (now (m .entry)) r (now (out .exit)) × (r ≤ 8192) ⌝ }
 {
     let others = separation::sides::rest(t, group);
     let strays = reach::fill(t, m, group, own);
@@ -120,7 +120,7 @@ fn put_with_maps(
 // The same with maps of its own.
 fn put_judged(out: &mut [u8], t: &[u32], m: &[u8], group: u32) -> usize
     requires { ⌜ (sound (now t) (length (now m)) ≡ true) × (isGroup group (coresOf (now t)) ≡ true) × (8192 ≤ length (now out)) ⌝ }
-    ensures { λ r. ⌜ x.Answered (apartOn group (now (t .entry)) (now (m .entry))) (now (out .entry)) group (now (t .entry)) (now (m .entry)) r (now (out .exit)) × (r ≤ 8192) ⌝ }
+    ensures { λ r. ⌜ x.Reported (apartOn group (now (t .entry)) (now (m .entry))) (now (out .entry)) group (now (t .entry)) (now (m .entry)) r (now (out .exit)) × (r ≤ 8192) ⌝ }
 {
     let n = t[PAGES] as usize;
     let mut own = [0u8; MOST_PAGES];
@@ -131,7 +131,7 @@ fn put_judged(out: &mut [u8], t: &[u32], m: &[u8], group: u32) -> usize
 // The verdict, and what leads to it; or a refusal.
 pub fn put_report(out: &mut [u8], t: &[u32], m: &[u8], group: u32) -> usize
     requires { ⌜ 8192 ≤ length (now out) ⌝ }
-    ensures { λ r. ⌜ x.Answered (apartOn group (now (t .entry)) (now (m .entry))) (now (out .entry)) group (now (t .entry)) (now (m .entry)) r (now (out .exit)) × (r ≤ 8192) ⌝ }
+    ensures { λ r. ⌜ x.Reported (apartOn group (now (t .entry)) (now (m .entry))) (now (out .entry)) group (now (t .entry)) (now (m .entry)) r (now (out .exit)) × (r ≤ 8192) ⌝ }
 {
     if !tables::sound(t, m.len()) {
         return crate::wrong::put_refused(out, 4);

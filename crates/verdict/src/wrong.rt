@@ -10,7 +10,7 @@ ghost use Rattle.verdict.specs.Wrong as x;
 
 // The core that an argument names, or 4.
 pub fn core_of(s: &[u8]) -> u32
-    ensures { λ r. ⌜ (r ≡ x.coreOf (now (s .entry))) × (r ≤ 4) ⌝ }
+    ensures { λ r. ⌜ (r ≡ x.namedCore (now (s .entry))) × (r ≤ 4) ⌝ }
 {
     if s.len() != 1 {
         return 4;

@@ -1,13 +1,13 @@
 -- `reasons::tell` meets its contract.
 -- Assumes nothing.
-use mathlib.Core.Path.{_≡_, sym, ap, _∙_}
-use Prim.Native.Nat.{_-_, _≤_}
+use mathlib.Core.Path.{sym, ap, _∙_}
+use Prim.Native.Nat.{_-_}
 use native.Mathlib.Omega.{arith}
 use denote.Ref.{now}
 use borrow.Author.Tests.{not-true, not-false, eq-eqb, ne-eqb}
 use borrow.Author.Needs.{needs}
 use Rattle.tables.proofs.Lift.{header}
-use Rattle.reasons.specs.Why.{Told, whyNumber, whyWords}
+use Rattle.reasons.specs.Why.{Told, whyNumber}
 use Rattle.reasons.proofs.Telling.{tells-4, tells-12, tells-13, tells, after-small}
 use Rattle.reasons.proofs.tell.Statement.{statement}
 use Rattle.reasons.proofs.tell.Tie as tie

@@ -25,8 +25,8 @@ use Rattle.reasons.specs.declared.Found.the-variants.{Nothing, Lowest}
 use Rattle.reasons.specs.declared.Side.the-variants.{Group, Rest}
 use Rattle.reasons.specs.declared.Reason.{Reason}
 use Rattle.reasons.specs.declared.Reason.the-variants.{BeyondMemory, OwnTable, Touches}
-use Rattle.reasons.specs.Ways.{naming, roots, entryName, nextName, rootWay, further, onward, allFrom, coreWays, ways}
-use Rattle.reasons.specs.Why.{page, lower, lowest, grants, spoils, whyNumber}
+use Rattle.reasons.specs.Ways.{naming, roots, entryNamed, nextNamed, rootWay, further, onward, allFrom, coreWays, ways}
+use Rattle.reasons.specs.Why.{page, lower, lowestWay, grants, spoils, whyNumber}
 
 -- What is looked for beside a memory of n pages and marks c of pages: from page low on, with kind 0 a page beyond memory, with kind 1 a page that is
 -- marked, by a way that grants write, else a page that is marked, by a way that grants write or comes to a table.
@@ -50,11 +50,11 @@ hits P l e = if pteP e then P (naming (l - 1) (pteBa e) (grantsWrite (pteR e))) 
 
 -- the lowest of those that are looked for
 unfoldable pub sought : (Named → Bool) → List Way → Found
-sought P l = lowest (select (λ w. P (w .names)) l)
+sought P l = lowestWay (select (λ w. P (w .names)) l)
 
 -- what the entries of the second-level table in page q name
 unfoldable pub tableNames : List ℕ → ℕ → List Named
-tableNames m q = flatMap (nextName m (naming 1 q false)) (range 1024)
+tableNames m q = flatMap (nextNamed m (naming 1 q false)) (range 1024)
 
 -- page p is not lower than what was found
 abbrev pub notLower : Found → ℕ → Bool
@@ -73,7 +73,7 @@ pub record Searched (P : Named → Bool) (m : List ℕ) (f : Found) (s : List �
 
 -- the ways that go on by entry i of a first-level table
 unfoldable pub throughEntry : List ℕ → Way → ℕ → Entry → List Way
-throughEntry m w i e = flatMap (onward m 1) (map (further w i) (entryName (w .names) e))
+throughEntry m w i e = flatMap (onward m 1) (map (further w i) (entryNamed (w .names) e))
 
 -- the root in record n
 abbrev pub recordRoot : Bool → ℕ → Root
@@ -102,7 +102,7 @@ pub record Faults (k : ℕ) (own other s : List ℕ) (low : ℕ) : Type 0 where
   pub least : (p : ℕ) → p < length s → faultAt k (getD own p 0) (getD other p 0) ≡ true → low ≤ p
 
 -- marks s have become those
-pub record Marked (k : ℕ) (own other s e : List ℕ) (low : ℕ) : Type 0 where
+pub record FaultsMarked (k : ℕ) (own other s e : List ℕ) (low : ℕ) : Type 0 where
   pub long : length e ≡ length s
   pub faults : Faults k own other e low
 
@@ -115,13 +115,13 @@ faulty k n own other x =
 -- ---- what each reason finds
 
 unfoldable pub beyondFound : List ℕ → List ℕ → List ℕ → Found
-beyondFound cs t m = lowest (select (λ w. not (ltb (page w) (pagesOf t))) (ways cs t m))
+beyondFound cs t m = lowestWay (select (λ w. not (ltb (page w) (pagesOf t))) (ways cs t m))
 
 unfoldable pub tableFound : List ℕ → List ℕ → List ℕ → Found
-tableFound cs t m = lowest (select (λ w. grants w && (ltb (page w) (pagesOf t) && has (page w) (tablePages (reach cs t m)))) (ways cs t m))
+tableFound cs t m = lowestWay (select (λ w. grants w && (ltb (page w) (pagesOf t) && has (page w) (tablePages (reach cs t m)))) (ways cs t m))
 
 unfoldable pub touchFound : List ℕ → List ℕ → List ℕ → List ℕ → Found
-touchFound cs os t m = lowest (select (λ w. spoils w && (ltb (page w) (pagesOf t) && has (page w) (reached (reach cs t m)))) (ways os t m))
+touchFound cs os t m = lowestWay (select (λ w. spoils w && (ltb (page w) (pagesOf t) && has (page w) (reached (reach cs t m)))) (ways os t m))
 
 -- a way as reason n, from 2 on
 abbrev pub asReason : ℕ → Way → Reason

@@ -1,6 +1,5 @@
 -- `reasons::judge::is_fault` meets its contract.
 -- Assumes nothing.
-use mathlib.Core.Path.{_≡_}
 use Rattle.reasons.proofs.Reasons.{fault-own, fault-both}
 use Rattle.reasons.proofs.judge.is_fault.Statement.{statement}
 use Rattle.reasons.proofs.judge.is_fault.Tie as tie

@@ -1,17 +1,13 @@
 -- `reasons::judge::marked` meets its contract.
 -- Assumes nothing.
-use mathlib.Core.Path.{_≡_, sym, ap, subst, _∙_}
-use Prim.Native.Nat.{ℕ}
+use mathlib.Core.Path.{sym, _∙_}
 use native.Mathlib.Omega.{arith}
-use lib.ListN.{length}
 use denote.Ref.{now}
 use borrow.Author.Needs.{needs}
 use Rattle.tables.specs.Views.{coresOf, pagesOf}
 use Rattle.tables.proofs.Lift.{header}
 use Rattle.reach.specs.Reach.{members}
-use Rattle.reasons.specs.declared.Found.the-variants.{Nothing}
 use Rattle.reasons.specs.Ways.{ways}
-use Rattle.reasons.specs.inner.Search.{wanted, sought, faulty}
 use Rattle.reasons.proofs.Reasons.{none-faulty, find-faulty}
 use Rattle.reasons.proofs.judge.marked.Statement.{statement}
 use Rattle.reasons.proofs.judge.marked.Tie as tie

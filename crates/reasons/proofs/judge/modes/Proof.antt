@@ -1,6 +1,5 @@
 -- `reasons::judge::modes` meets its contract. The invariant: no core below k fails.
 -- Assumes nothing.
-use mathlib.Core.Path.{_≡_}
 use Prim.Native.Nat.{_-_, _≤_}
 use native.Mathlib.Omega.{arith}
 use denote.Ref.{now}

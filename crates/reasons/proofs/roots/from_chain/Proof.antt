@@ -1,15 +1,12 @@
 -- `reasons::roots::from_chain` meets its contract. The invariant: what is done and what is left of the chain is the whole.
 -- Assumes nothing.
-use mathlib.Core.Path.{_≡_, ap, sym, subst, _∙_}
-use mathlib.Core.List.{List}
-use Prim.Native.Nat.{ℕ, _<_}
+use mathlib.Core.Path.{ap, _∙_}
+use Prim.Native.Nat.{_<_}
 use native.Mathlib.Omega.{arith}
 use denote.Ref.{now}
 use Rattle.reasons.specs.inner.Search.{wanted, recordWays}
 use Rattle.records.proofs.Checking.{check-low}
 use Rattle.reasons.specs.declared.Way.{Way}
-use Rattle.reasons.specs.Ways.{allFrom}
-use Rattle.reasons.specs.inner.Search.{Searched}
 use Rattle.reasons.proofs.Blocks.{Chaining, chain-start, chain-next, chain-ends, chain-out, way-ways}
 use Rattle.reasons.proofs.roots.from_chain.Statement.{statement}
 use Rattle.reasons.proofs.roots.from_chain.Tie as tie

@@ -1,7 +1,6 @@
 -- `reasons::search::from_entry` meets its contract.
 -- Assumes nothing.
-use mathlib.Core.Path.{ap, sym, subst, _∙_}
-use mathlib.Core.List.{[]}
+use mathlib.Core.Path.{subst}
 use native.Mathlib.Omega.{arith}
 use denote.Ref.{now}
 use borrow.Author.Needs.{needs}

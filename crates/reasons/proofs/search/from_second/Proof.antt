@@ -1,12 +1,11 @@
 -- `reasons::search::from_second` meets its contract.
 -- Assumes nothing.
 use mathlib.Core.Path.{sym, subst}
-use mathlib.Core.List.{List, [], _∷_}
+use mathlib.Core.List.{[], _∷_}
 use denote.Ref.{now}
 use borrow.Author.Needs.{needs}
 use Rattle.reasons.specs.inner.Search.{wanted}
 use Rattle.reasons.proofs.Searches.{searched-by, searched-then, onward-one}
-use Rattle.reasons.specs.declared.Way.{Way}
 use Rattle.reasons.specs.inner.Search.{Searched}
 use Rattle.reasons.proofs.search.from_second.Statement.{statement}
 use Rattle.reasons.proofs.search.from_second.Tie as tie

@@ -1,6 +1,5 @@
 -- `reasons::search::is_hit` meets its contract.
 -- Assumes nothing.
-use mathlib.Core.Path.{_≡_, sym, _∙_, ap}
 use denote.Ref.{now}
 use borrow.Author.Needs.{needs}
 use Rattle.reasons.specs.inner.Search.{wanted}

@@ -4,19 +4,19 @@ use mathlib.Core.Path.{_≡_, ap}
 use Prim.Native.Nat.{_+_, _-_, _≤_}
 use Rattle.text.specs.Text.{Put}
 use Rattle.text.proofs.Texts.{none, reworded}
-use Rattle.verdict.specs.Pages.{marks}
+use Rattle.verdict.specs.Pages.{markRow}
 use Rattle.verdict.proofs.Marks.{marks-more}
 use Rattle.verdict.proofs.pages.put_marks.Statement.{statement}
 use Rattle.verdict.proofs.pages.put_marks.Tie as tie
 
 abbrev Inv-loop : tie.InvT-loop
-Inv-loop out₀ at own other a n i₀ out i = Put out₀ at (marks own other a i) (at + i) out × (i ≤ n)
+Inv-loop out₀ at own other a n i₀ out i = Put out₀ at (markRow own other a i) (at + i) out × (i ≤ n)
 
 abbrev μ-loop : tie.MeasureT-loop
 μ-loop out₀ at own other a n i₀ out i = n - i
 
 loop-holds : tie.Need-loop-holds Inv-loop μ-loop
-unfolding marks
+unfolding markRow
 loop-holds c = (none _ _, omega arith)
 
 add-mark : tie.Need-add-mark Inv-loop μ-loop
@@ -56,7 +56,7 @@ same-length : tie.Need-same-length Inv-loop μ-loop
 same-length c = c .before .loop .inv .0 .kept
 
 returns : tie.Need-returns Inv-loop μ-loop
-returns c = let e : c .before .loop .i ≡ c .before .before .before .before .before .args .n = omega arith in (reworded (ap (marks _ _ _) e) (c .before .loop .inv .0), omega arith)
+returns c = let e : c .before .loop .i ≡ c .before .before .before .before .before .args .n = omega arith in (reworded (ap (markRow _ _ _) e) (c .before .loop .inv .0), omega arith)
 
 pub put-marks-spec : {M : Type 1} → statement M
 put-marks-spec =

@@ -11,7 +11,7 @@ use Rattle.verdict.proofs.pages.tally_of.Statement.{statement}
 use Rattle.verdict.proofs.pages.tally_of.Tie as tie
 
 abbrev Inv-loop : tie.InvT-loop
-Inv-loop map reached₀ written₀ tables₀ i₀ reached written tables i = (i ≤ length map) × (reached ≤ i) × (written ≤ i) × (tables ≤ i) × (reached + countOf pages.reached (drop i map) ≡ countOf pages.reached map) × (written + countOf pages.written (drop i map) ≡ countOf pages.written map) × (tables + countOf pages.table (drop i map) ≡ countOf pages.table map)
+Inv-loop map reached₀ written₀ tables₀ i₀ reached written tables i = (i ≤ length map) × (reached ≤ i) × (written ≤ i) × (tables ≤ i) × (reached + countOf pages.isReached (drop i map) ≡ countOf pages.isReached map) × (written + countOf pages.canWrite (drop i map) ≡ countOf pages.canWrite map) × (tables + countOf pages.isTable (drop i map) ≡ countOf pages.isTable map)
 
 abbrev μ-loop : tie.MeasureT-loop
 μ-loop map reached₀ written₀ tables₀ i₀ reached written tables i = length map - i

@@ -10,13 +10,13 @@ use Rattle.text.proofs.Texts.{reworded}
 use Rattle.reasons.specs.Why.{whyNumber}
 use Rattle.reasons.proofs.Telling.{after-small}
 use Rattle.verdict.specs.Reasons.{reasonText, reasonLines}
-use Rattle.verdict.specs.inner.Left.{Left}
+use Rattle.verdict.specs.inner.Lines.{LinesLeft}
 use Rattle.verdict.proofs.Answers.{first-line, line-done, line-more, line-last}
 use Rattle.verdict.proofs.report.put_reasons.Statement.{statement}
 use Rattle.verdict.proofs.report.put_reasons.Tie as tie
 
 abbrev Inv-loop : tie.InvT-loop
-Inv-loop out₀ at t m group others own other strays astray words₀ after₀ p₀ i₀ out words after p i = Left (reasonLines 6 0 group t m) out₀ at p out (reasonLines (6 - i) after group t m) × (i ≤ 6) × (p ≤ at + 228 * i) × (9 ≡ length words)
+Inv-loop out₀ at t m group others own other strays astray words₀ after₀ p₀ i₀ out words after p i = LinesLeft (reasonLines 6 0 group t m) out₀ at p out (reasonLines (6 - i) after group t m) × (i ≤ 6) × (p ≤ at + 228 * i) × (9 ≡ length words)
 
 abbrev μ-loop : tie.MeasureT-loop
 μ-loop out₀ at t m group others own other strays astray words₀ after₀ p₀ i₀ out words after p i = 6 - i

@@ -9,7 +9,7 @@ use Rattle.tables.specs.Views.{coresOf}
 use Rattle.reach.specs.Reach.{members, mapFor}
 use Rattle.separation.specs.Apart.{rest}
 
-pub record Left (whole b : List ℕ) (at r : ℕ) (c left : List ℕ) : Type 0 where
+pub record LinesLeft (whole b : List ℕ) (at r : ℕ) (c left : List ℕ) : Type 0 where
   pub text : List ℕ
   pub put : Put b at text r c
   pub parts : text ++ left ≡ whole
