@@ -58,7 +58,10 @@ class Core:
             if w not in RIGHTS:
                 raise Bad(f"{w!r} is none of user, write, execute")
             rights |= RIGHTS[w]
-        self.pages.append((number(words[0], (1 << 20) - 1, "virtual page", 16), number(words[2], (1 << 20) - 1, "page"), rights))
+        va = number(words[0], (1 << 20) - 1, "virtual page", 16)
+        if any(va == other for other, _, _ in self.pages):
+            raise Bad(f"virtual page {va:05x} is there already")
+        self.pages.append((va, number(words[2], (1 << 20) - 1, "page"), rights))
 
 
 def read(text):
@@ -70,6 +73,8 @@ def read(text):
         try:
             if words[0] == "pages" and len(words) == 2:
                 pages = number(words[1], PAGE, "number of pages")
+                if pages == 0:
+                    raise Bad("number of pages 0 is not 1 to 4096")
             elif words[0] == "core":
                 cores.append(Core(words, len(cores)))
             elif cores:

@@ -140,7 +140,7 @@ uint32_t mips86_apart(const uint32_t *tables, size_t ntables, const uint8_t *mem
  * Why is the group not apart? The conditions of apart come in their order, as reasons 1 to 6. Asks for the first reason
  * that holds and has a number above `after`: with 0 for the first of all, with an answer for the one after it.
  * Answers 0 where there is none, the reason's number, or a refusal (4, 12, 13). With `after` 0 the answer is 0 exactly
- * where apart answers yes. Writes the nine words, which a refusal leaves. Uses some 42 KB of stack.
+ * where apart answers yes. Reasons 4 to 6 are about pages in memory. Writes the nine words, which a refusal leaves. Uses some 42 KB of stack.
  *
  * A reason names the lowest page at fault and one way to it: it begins at the core's pto, at a walk or at a pending
  * store, and goes on through up to two present entries. That each way is real, followed entry by entry to the page and

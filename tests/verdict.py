@@ -14,14 +14,24 @@ WRONG = re.compile(
     r"|'.{0,18}' is no core number: 0 to 3"
     r"|the input is cut at byte [0-9]+: words 0 and 1 are 8 bytes"
     r"|the input is (cut at byte [0-9]+|too long): a machine \(cores: [1-4], pages: [0-9]+\) has [0-9]+ bytes"
-    r"|word 0 says [0-9]+ cores: 1 to 4"
-    r"|word 1 says [0-9]+ pages: 1 to 4096"
+    r"|word 0 says [0-9]+ cores, not 1 to 4"
+    r"|word 1 says [0-9]+ pages, not 1 to 4096"
     r"|a map of [0-9]+ pages needs a larger stack: type 'ulimit -s 32768' first"
     r"|refused (4: the tables are not sound|13: a core of the group is not there)"
 )
 SIDE = re.compile(
     r"(group|rest): (no cores|core [0-3]|cores( [0-3]){2,4}); reaches (1 page|[0-9]+ pages), writes [0-9]+, uses (1 as a table|[0-9]+ as tables)"
 )
+WAY = r"core [0-3], (virtual page [0-9a-f]{5}|virtual pages [0-9a-f]{5} to [0-9a-f]{5}|the page in pto|the walk in record [0-9]+|the pending store in record [0-9]+)(, entry at [0-9a-f]{8}|, entries at [0-9a-f]{8} and [0-9a-f]{8})?"
+# in their order
+REASONS = [
+    r"core [0-3] is not running in user mode",
+    r"the group reaches page [0-9]+, beyond memory: " + WAY,
+    r"the rest reaches page [0-9]+, beyond memory: " + WAY,
+    r"the group can write its own table page [0-9]+: " + WAY,
+    r"the rest can write its own table page [0-9]+: " + WAY,
+    r"the rest (can write page [0-9]+, which the group reaches|uses page [0-9]+, which the group reaches, as a table): " + WAY,
+]
 LEGEND = 3
 
 
@@ -51,6 +61,9 @@ def what_is_wrong(out, pages):
         return "apart, with a reason or a mark that spoils it"
     if lines[-1] == "not apart" and not 1 <= len(reasons) <= 6:
         return "not apart, with %d reasons" % len(reasons)
+    numbers = [n for line in reasons for n, form in enumerate(REASONS) if re.fullmatch(form, line)]
+    if len(numbers) != len(reasons) or numbers != sorted(set(numbers)):
+        return "the lines of the reasons"
     return None
 
 
@@ -87,6 +100,32 @@ def entries(r, b):
     for _ in range(r.choice([1, 3, 10, 100])):
         struct.pack_into("<I", bytes_, start + 4 * r.randrange(4 * 1024, 12 * 1024), r.getrandbits(18) << 12 | r.getrandbits(12))
     return bytes(bytes_)
+
+
+def held(r, b):
+    """Walks and pending stores, as a running machine holds them: most of them to another side's pages."""
+    bytes_ = bytearray(b)
+    for _ in range(r.choice([1, 2, 5])):
+        block = 128 + 1024 * r.randrange(4)
+        (n,) = struct.unpack_from("<I", bytes_, block + 4 * 70)
+        record = block + 4 * (128 + 4 * n)
+        page = r.choice([r.randrange(64), r.randrange(4, 12), 64])
+        words = [r.getrandbits(20) << 12 | r.randrange(3) << 3 | r.getrandbits(3), page, 0]
+        head = 69
+        if r.random() < 0.3:
+            words, head = [(page % 64) << 12 | 16, 7, 4], 68
+        (free,) = struct.unpack_from("<I", bytes_, record)
+        (first,) = struct.unpack_from("<I", bytes_, block + 4 * head)
+        struct.pack_into("<4I", bytes_, record, first, *words)
+        struct.pack_into("<I", bytes_, block + 4 * head, n)
+        struct.pack_into("<I", bytes_, block + 4 * 70, free)
+    return bytes(bytes_)
+
+
+def fewer(r, b):
+    """A machine of fewer cores: the group may name one that is not there."""
+    n = r.randrange(1, 4)
+    return struct.pack("<I", n) + b[4 : 128 + 1024 * n] + b[128 + 1024 * 4 :]
 
 
 def noise(r, b):
@@ -133,7 +172,7 @@ def main():
     count = int(sys.argv[3]) if len(sys.argv) > 3 else 3000
     good = [open("%s/%s.bin" % (maps, name), "rb").read() for name in ("feeder", "competitor", "own_table")]
     r = random.Random(20261116)
-    damages = [cut, cut_early, longer, header, table_words, table_words, table_words, entries, entries, noise, as_it_is]
+    damages = [cut, cut_early, longer, header, table_words, table_words, table_words, entries, entries, held, held, fewer, noise, as_it_is]
     failed, reports, apart = sizes(program, good[0]), 0, 0
     stack(8192)
     for i in range(count):

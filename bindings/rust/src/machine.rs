@@ -91,6 +91,14 @@ impl Machine {
 
     /// The pages that a group of cores reaches. The error is the number of the refusal: 4 where the tables are not
     /// sound, 13 where the group is empty or names a core that is not there.
+    ///
+    /// ```
+    /// use mips86::{Machine, TABLE};
+    ///
+    /// let r = Machine::make(1, 2)?.reach(0b1)?;
+    /// assert_eq!((r.map, r.beyond), (vec![TABLE, 0], false)); // pto names page 0
+    /// # Ok::<(), u32>(())
+    /// ```
     pub fn reach(&self, group: u32) -> Result<Reach, u32> {
         let mut map = vec![0; self.memory.len() / PAGE_BYTES];
         let beyond = reach(&self.tables, &self.memory, group, &mut map)?;
@@ -125,11 +133,27 @@ impl Machine {
     }
 
     /// All reasons, at most one for each condition and side, in their order.
+    ///
+    /// ```
+    /// use mips86::{Machine, Reason};
+    ///
+    /// assert_eq!(Machine::make(1, 1)?.reasons(0b1)?, [Reason::NotUser(0)]);
+    /// # Ok::<(), u32>(())
+    /// ```
     pub fn reasons(&self, group: u32) -> Result<Vec<Reason>, u32> {
         reasons(&self.tables, &self.memory, group)
     }
 
     /// The machine as bytes: its table words, low byte first, then its memory.
+    ///
+    /// ```
+    /// use mips86::Machine;
+    ///
+    /// let bytes = Machine::make(1, 1)?.save();
+    /// assert_eq!(bytes.len(), 4 * (32 + 256) + 4096);
+    /// assert_eq!(&bytes[..8], &[1, 0, 0, 0, 1, 0, 0, 0]);
+    /// # Ok::<(), u32>(())
+    /// ```
     pub fn save(&self) -> Vec<u8> {
         let words = self.tables.iter().flat_map(|w| w.to_le_bytes());
         words.chain(self.memory.iter().copied()).collect()

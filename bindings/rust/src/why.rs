@@ -52,9 +52,9 @@ pub enum Reason {
     NotUser(u32),
     /// A side reaches a page beyond memory.
     BeyondMemory(Side, Way),
-    /// A side can write a page that it uses as a table.
+    /// A side can write a page of memory that it uses as a table.
     OwnTable(Side, Way),
-    /// The rest can write, or uses as a table, a page that the group reaches.
+    /// The rest can write, or uses as a table, a page of memory that the group reaches.
     Touches(Way),
 }
 

@@ -2,22 +2,22 @@
 -- Assumes nothing.
 use mathlib.Core.Path.{_≡_, refl, sym, ap, _∙_, subst}
 use mathlib.Core.Bool.{Bool, true, false, _&&_, _||_, not, false≢true}
-use mathlib.Core.List.{List, [], _∷_}
-use Prim.Native.Nat.{ℕ, zero, suc, _+_, _-_}
+use mathlib.Core.List.{List, [], _∷_, _++_}
+use Prim.Native.Nat.{ℕ, zero, suc, _+_, _-_, _<_}
 use native.Mathlib.Omega.{arith}
 use lib.Dec.{eqb, ltb}
 use lib.ListN.{length}
 use borrow.Author.Tests.{not-true, eqb-true}
 use Rattle.word.specs.Word.{if_then_else_, isSet}
-use Rattle.word.proofs.Truth.{and-left, and-right}
+use Rattle.word.proofs.Truth.{and-left, and-right, or-other, tested}
 use Rattle.layout.specs.Blocks.{block}
 use Rattle.tables.specs.Views.{coresOf, pagesOf, runs}
 use Rattle.tables.specs.Sound.{sound}
 use Rattle.reach.specs.Lists.{range, has, select}
 use Rattle.reach.specs.Reach.{isGroup, members, reach, tablePages, reached}
-use Rattle.reach.proofs.Lists.{Each, if-both}
+use Rattle.reach.proofs.Lists.{In, in-here, in-there, in-left, in-right, in-range, range-in, in-select, Each, if-both}
 use Rattle.separation.specs.declared.Verdict.the-variants as verdict
-use Rattle.separation.specs.Apart.{rest, runsAsUser, apart, apartOn}
+use Rattle.separation.specs.Apart.{runningCores, rest, runsAsUser, apart, apartOn}
 use Rattle.reasons.specs.declared.Way.{Way}
 use Rattle.reasons.specs.declared.Found.{Found}
 use Rattle.reasons.specs.declared.Found.the-variants.{Nothing, Lowest}
@@ -72,10 +72,18 @@ module _ (g : ℕ) (t m : List ℕ) where
   abbrev os : List ℕ
   os = rest g t
 
-  mode-ground : (l : List ℕ) → G (firstFailing g t l)
+  -- a core of either side is in their lists
+  of-side : (k : ℕ) → k < coresOf t → (isSet g k || runs (block t k)) ≡ true → has k (cs ++ os) ≡ true
+  unfolding members rest runningCores
+  of-side k h e =
+      tested (isSet g k)
+      (λ i. in-left k cs os (in-select (λ j. isSet g j) (range (coresOf t)) k (in-range (coresOf t) k h) i))
+      (λ i. in-right k cs os (in-select (λ j. not (isSet g j)) (select (λ j. runs (block t j)) (range (coresOf t))) k (in-select (λ j. runs (block t j)) (range (coresOf t)) k (in-range (coresOf t) k h) (or-other (isSet g k) (runs (block t k)) e i)) (ap not i)))
+
+  mode-ground : (l : List ℕ) → ((k : ℕ) → In k l → k < coresOf t) → G (firstFailing g t l)
   unfolding firstFailing
-  mode-ground [] = tt
-  mode-ground (k ∷ l) = if-both G (fails g t k) (NotUser k) (firstFailing g t l) (λ e. (and-left (isSet g k || runs (block t k)) _ e, not-true (runsAsUser t k) (and-right (isSet g k || runs (block t k)) _ e))) (λ _. mode-ground l)
+  mode-ground [] f = tt
+  mode-ground (k ∷ l) f = if-both G (fails g t k) (NotUser k) (firstFailing g t l) (λ e. (of-side k (f k (in-here k l)) (and-left (isSet g k || runs (block t k)) _ e), not-true (runsAsUser t k) (and-right (isSet g k || runs (block t k)) _ e))) (λ _. mode-ground l (λ j h. f j (in-there j k l h)))
 
   outside : (ks : List ℕ) → Each (Outside ks t m) (select (λ w. not (ltb (page w) (pagesOf t))) (ways ks t m))
   outside ks = passing ks t m (Outside ks t m) (λ w. not (ltb (page w) (pagesOf t))) (λ w r e. record { real = r; outside = not-true (ltb (page w) (pagesOf t)) e })
@@ -89,7 +97,7 @@ module _ (g : ℕ) (t m : List ℕ) where
   reason-ground : (n : ℕ) → G (reasonAt g t m n)
   unfolding reasonAt modeReason beyondReason tableReason touchReason
   reason-ground n =
-      if-both G (eqb n 1) (modeReason g t) _ (λ _. mode-ground (range (coresOf t)))
+      if-both G (eqb n 1) (modeReason g t) _ (λ _. mode-ground (range (coresOf t)) (range-in (coresOf t)))
       (λ _. if-both G (eqb n 2) (beyondReason Group cs t m) _ (λ _. lowest-is G (BeyondMemory Group) _ tt (outside cs))
       (λ _. if-both G (eqb n 3) (beyondReason Rest os t m) _ (λ _. lowest-is G (BeyondMemory Rest) _ tt (outside os))
       (λ _. if-both G (eqb n 4) (tableReason Group cs t m) _ (λ _. lowest-is G (OwnTable Group) _ tt (written cs))

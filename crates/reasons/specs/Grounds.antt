@@ -1,13 +1,12 @@
 -- What holds of the answer of `why`: there is no reason exactly where the group is apart, and each way that is named is real.
 -- Assumes nothing.
 use mathlib.Core.Path.{_≡_}
-use mathlib.Core.Bool.{true, false, _||_}
-use mathlib.Core.List.{List, [], _∷_}
-use Prim.Native.Nat.{ℕ}
+use mathlib.Core.Bool.{true, false}
+use mathlib.Core.List.{List, [], _∷_, _++_}
+use Prim.Native.Nat.{ℕ, _+_}
 use lib.Dec.{ltb}
-use Rattle.word.specs.Word.{isSet}
 use Rattle.layout.specs.Blocks.{block}
-use Rattle.tables.specs.Views.{coresOf, pagesOf, runs}
+use Rattle.tables.specs.Views.{coresOf, pagesOf}
 use Rattle.reach.specs.Lists.{has}
 use Rattle.reach.specs.Reach.{members, reach, tablePages, reached}
 use Rattle.separation.specs.declared.Verdict.the-variants as verdict
@@ -17,13 +16,16 @@ use Rattle.reasons.specs.declared.Side.{Side}
 use Rattle.reasons.specs.declared.Side.the-variants.{Group, Rest}
 use Rattle.reasons.specs.declared.Reason.{Reason}
 use Rattle.reasons.specs.declared.Reason.the-variants.{NoReason, Refused, NotUser, BeyondMemory, OwnTable, Touches}
-use Rattle.reasons.specs.Ways.{followed}
+use Rattle.reasons.specs.Ways.{rootNamed, isRoot, followed}
 use Rattle.reasons.specs.Why.{page, grants, spoils, whyAfter}
 
--- Followed from where it begins, through present entries, a way comes to what it names; its core is one of cs.
+-- A way of one of the cores cs begins at a root that the core's block holds and goes one level down with each entry; followed from there, through present
+-- entries, it comes to what it names.
 pub record Real (cs t m : List ℕ) (w : Way) : Type 0 where
-  pub follows : followed t m w ≡ w .names ∷ []
   pub of-core : has (w .core) cs ≡ true
+  pub begins : isRoot (block t (w .core)) (w .root) ≡ true
+  pub depth : w .names .level + w .entries ≡ rootNamed (block t (w .core)) (w .root) .level
+  pub follows : followed t m w ≡ w .names ∷ []
 
 abbrev pub coresIn : ℕ → List ℕ → Side → List ℕ
 coresIn g t Group = members g (coresOf t)
@@ -47,7 +49,7 @@ pub record Met (cs os t m : List ℕ) (w : Way) : Type 0 where
 abbrev pub Grounded : ℕ → List ℕ → List ℕ → Reason → Type 0
 Grounded g t m NoReason = Unit {0}
 Grounded g t m (Refused n) = apartOn g t m ≡ verdict.Refused n
-Grounded g t m (NotUser k) = ((isSet g k || runs (block t k)) ≡ true) × (runsAsUser t k ≡ false)
+Grounded g t m (NotUser k) = (has k (members g (coresOf t) ++ rest g t) ≡ true) × (runsAsUser t k ≡ false)
 Grounded g t m (BeyondMemory s w) = Outside (coresIn g t s) t m w
 Grounded g t m (OwnTable s w) = Written (coresIn g t s) t m w
 Grounded g t m (Touches w) = Met (members g (coresOf t)) (rest g t) t m w

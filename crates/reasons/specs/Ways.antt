@@ -13,7 +13,7 @@ use Rattle.tlb.specs.declared.Entry.{Entry}
 use Rattle.tlb.specs.declared.Entry.the-variants.{Word, Missing}
 use Rattle.tlb.specs.Walks.{walkLevel, walkR, walkBa, baseAddress, entryAt, pteaAt, pteP, pteR, pteBa}
 use Rattle.tlb.specs.Steps.{originOf}
-use Rattle.reach.specs.Lists.{range}
+use Rattle.reach.specs.Lists.{range, has}
 use Rattle.reach.specs.Reach.{grantsWrite}
 use Rattle.reasons.specs.declared.Named.{Named}
 use Rattle.reasons.specs.declared.Root.{Root}
@@ -39,6 +39,12 @@ rootNamed b (AtStore n) = storeNamed (storeIn b n)
 -- the roots of a block
 unfoldable pub roots : List ℕ → List Root
 roots b = AtOrigin ∷ (map AtWalk (walkNumbers b) ++ map AtStore (storeNumbers b))
+
+-- a root that the block holds
+abbrev pub isRoot : List ℕ → Root → Bool
+isRoot b AtOrigin = true
+isRoot b (AtWalk n) = has n (walkNumbers b)
+isRoot b (AtStore n) = has n (storeNumbers b)
 
 -- what an entry of a table names, which is itself named x
 abbrev pub entryNamed : Named → Entry → List Named

@@ -1,4 +1,4 @@
--- Reason a group is not apart: the first reason in the order of 01's conditions ('Apart'), with the lowest page at fault and a way to it.
+-- Why a group is not apart: the first reason in the order of 01's conditions ('Apart'), with the lowest page at fault and a way to it.
 -- Assumes nothing.
 use mathlib.Core.Bool.{Bool, _&&_, _||_, not}
 use mathlib.Core.List.{List, [], _∷_}
@@ -65,6 +65,7 @@ modeReason g t = firstFailing g t (range (coresOf t))
 unfoldable pub beyondReason : Side → List ℕ → List ℕ → List ℕ → Reason
 beyondReason s cs t m = byWay (BeyondMemory s) (lowestWay (select (λ w. not (ltb (page w) (pagesOf t))) (ways cs t m)))
 
+-- a page beyond memory has a reason of its own, so the others are about pages in memory
 unfoldable pub tableReason : Side → List ℕ → List ℕ → List ℕ → Reason
 tableReason s cs t m =
     byWay (OwnTable s)

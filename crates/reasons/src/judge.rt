@@ -42,7 +42,7 @@ pub fn number(a: Reason) -> u32
     }
 }
 
-// The first of the cores below k that is not running in user mode.
+// The first core, of the group or another running one, that is not running in user mode.
 fn modes(t: &[u32], group: u32) -> Reason
     requires { ⌜ (coresOf (now t) ≤ 4) × (32 + 256 * coresOf (now t) ≤ length (now t)) ⌝ }
     ensures { λ r. ⌜ r ≡ x.modeReason group (now (t .entry)) ⌝ }

@@ -1,4 +1,4 @@
-// Reason a group is not apart (specs/Why.antt), with what holds of the answer (specs/Grounds.antt), proved in proofs/.
+// Why a group is not apart (specs/Why.antt), with what holds of the answer (specs/Grounds.antt), proved in proofs/.
 pub mod judge;
 mod roots;
 mod search;

@@ -1,4 +1,4 @@
--- The lines of a report on a group: each side, what the marks mean, and the verdict.
+-- The lines of a report on a group: each side, and what the marks mean.
 -- Assumes nothing.
 use mathlib.Core.List.{List, [], _∷_, _++_}
 use Prim.Native.Nat.{ℕ, _+_}

@@ -11,7 +11,7 @@ use Rattle.reasons.specs.Ways.{entryPlace}
 use Rattle.reasons.specs.Why.{whyNumber, whyAfter, whyWords}
 use Rattle.verdict.specs.declared.reason.Way.{Way}
 
--- the words that tell fills
+-- the nine words of an answer (`whyWords`)
 abbrev pub wayOf : List ℕ → Way
 wayOf w =
     record {
@@ -66,7 +66,7 @@ reasonText n w =
     else if eqb n 4 then spoilText (ascii "the group can write its own table page ") (ascii ": ") w
     else if eqb n 5 then spoilText (ascii "the rest can write its own table page ") (ascii ": ") w
     else if eqb (w .level) 0 then spoilText (ascii "the rest can write page ") (ascii ", which the group reaches: ") w
-    else spoilText (ascii "the rest uses page ") (ascii " as a table, which the group reaches: ") w
+    else spoilText (ascii "the rest uses page ") (ascii ", which the group reaches, as a table: ") w
 
 -- the lines of the reasons after reason a, at most d of them
 unfoldable pub reasonLines : ℕ → ℕ → ℕ → List ℕ → List ℕ → List ℕ

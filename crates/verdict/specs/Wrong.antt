@@ -37,10 +37,10 @@ unfoldable pub longText : ℕ → ℕ → ℕ → List ℕ
 longText cores pages bytes = ascii "the input is too long" ++ machineText cores pages bytes
 
 unfoldable pub badCoresText : ℕ → List ℕ
-badCoresText n = ascii "word 0 says " ++ decimal n ++ ascii " cores: 1 to 4\n"
+badCoresText n = ascii "word 0 says " ++ decimal n ++ ascii " cores, not 1 to 4\n"
 
 unfoldable pub badPagesText : ℕ → List ℕ
-badPagesText n = ascii "word 1 says " ++ decimal n ++ ascii " pages: 1 to 4096\n"
+badPagesText n = ascii "word 1 says " ++ decimal n ++ ascii " pages, not 1 to 4096\n"
 
 unfoldable pub stackText : ℕ → List ℕ
 stackText pages = ascii "a map of " ++ decimal pages ++ ascii " pages needs a larger stack: type 'ulimit -s 32768' first\n"

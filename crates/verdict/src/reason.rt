@@ -175,7 +175,7 @@ pub fn put_reason(out: &mut [u8], at: usize, n: u32, w: Way) -> usize
         out,
         at,
         b"the rest uses page ",
-        b" as a table, which the group reaches: ",
+        b", which the group reaches, as a table: ",
         w,
     )
 }

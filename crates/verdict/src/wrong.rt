@@ -94,14 +94,14 @@ pub fn put_bad_cores(out: &mut [u8], n: u32) -> usize
     requires { ⌜ 200 ≤ length (now out) ⌝ }
     ensures { λ r. ⌜ Put (now (out .entry)) 0 (x.badCoresText n) r (now (out .exit)) × (r ≤ 200) ⌝ }
 {
-    put_between(out, b"word 0 says ", n as u64, b" cores: 1 to 4\n")
+    put_between(out, b"word 0 says ", n as u64, b" cores, not 1 to 4\n")
 }
 
 pub fn put_bad_pages(out: &mut [u8], n: u32) -> usize
     requires { ⌜ 200 ≤ length (now out) ⌝ }
     ensures { λ r. ⌜ Put (now (out .entry)) 0 (x.badPagesText n) r (now (out .exit)) × (r ≤ 200) ⌝ }
 {
-    put_between(out, b"word 1 says ", n as u64, b" pages: 1 to 4096\n")
+    put_between(out, b"word 1 says ", n as u64, b" pages, not 1 to 4096\n")
 }
 
 pub fn put_small_stack(out: &mut [u8], pages: u32) -> usize
