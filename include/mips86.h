@@ -140,7 +140,8 @@ uint32_t mips86_apart(const uint32_t *tables, size_t ntables, const uint8_t *mem
  * Why is the group not apart? The conditions of apart come in their order, as reasons 1 to 6. Asks for the first reason
  * that holds and has a number above `after`: with 0 for the first of all, with an answer for the one after it.
  * Answers 0 where there is none, the reason's number, or a refusal (4, 12, 13). With `after` 0 the answer is 0 exactly
- * where apart answers yes. Reasons 4 to 6 are about pages in memory. Writes the nine words, which a refusal leaves. Uses some 42 KB of stack.
+ * where apart answers yes. Reasons 4 to 6 are about pages in memory. Writes the nine words, which a refusal leaves.
+ * Uses some 42 KB of stack.
  *
  * A reason names the lowest page at fault and one way to it: it begins at the core's pto, at a walk or at a pending
  * store, and goes on through up to two present entries. That each way is real, followed entry by entry to the page and
@@ -156,15 +157,15 @@ uint32_t mips86_apart(const uint32_t *tables, size_t ntables, const uint8_t *mem
 #define MIPS86_REST_TABLE 5u   /* the rest can */
 #define MIPS86_TOUCHES 6u      /* the rest can write, or uses as a table, a page that the group reaches */
 
-#define MIPS86_WHY_CORE 0   /* the core that is not in user mode, or that the way begins at */
-#define MIPS86_WHY_PAGE 1   /* the page at fault */
-#define MIPS86_WHY_LEVEL 2  /* what it is at the end of the way: 2 first-level table, 1 second-level table, 0 data */
-#define MIPS86_WHY_WRITE 3  /* 1 where the way grants write */
-#define MIPS86_WHY_ROOT 4   /* where the way begins: 0 the page in pto, 1 a walk, 2 a pending store */
-#define MIPS86_WHY_RECORD 5 /* the record of that walk or store, 1 to 31 */
+#define MIPS86_WHY_CORE 0    /* the core that is not in user mode, or that the way begins at */
+#define MIPS86_WHY_PAGE 1    /* the page at fault */
+#define MIPS86_WHY_LEVEL 2   /* what it is at the end of the way: 2 first-level table, 1 second-level table, 0 data */
+#define MIPS86_WHY_WRITE 3   /* 1 where the way grants write */
+#define MIPS86_WHY_ROOT 4    /* where the way begins: 0 the page in pto, 1 a walk, 2 a pending store */
+#define MIPS86_WHY_RECORD 5  /* the record of that walk or store, 1 to 31 */
 #define MIPS86_WHY_ENTRIES 6 /* how many entries the way goes through, 0 to 2 */
-#define MIPS86_WHY_FIRST 7  /* their addresses; entry i of a table is at i * 4 in its page, so that a way from pto */
-#define MIPS86_WHY_SECOND 8 /* through both is that of virtual page (first / 4 % 1024) * 1024 + second / 4 % 1024 */
+#define MIPS86_WHY_FIRST 7   /* their addresses; entry i of a table is at i * 4 in its page, so that a way from pto */
+#define MIPS86_WHY_SECOND 8  /* through both is that of virtual page (first / 4 % 1024) * 1024 + second / 4 % 1024 */
 
 uint32_t mips86_why(const uint32_t *tables, size_t ntables, const uint8_t *memory, size_t nmemory, uint32_t group,
                     uint32_t after, uint32_t *words, size_t nwords);
