@@ -1,11 +1,11 @@
--- The numbers of reach and apart fit a word.
+-- The numbers of reach, apart and translate fit a word.
 -- Assumes nothing.
 use mathlib.Core.Path.{_≡_, refl}
 use mathlib.Core.Bool.{Bool, true, false, not}
 use mathlib.Core.List.{List}
-use Prim.Native.Nat.{ℕ, _^_, _<_}
+use Prim.Native.Nat.{ℕ, _*_, _^_, _<_}
 use native.Mathlib.Omega.{arith}
-use lib.Dec.{eqb}
+use lib.Dec.{eqb, ltb, leb}
 use lib.ListN.{length}
 use Rattle.word.specs.Word.{if_then_else_}
 use Rattle.tables.specs.Views.{coresOf, pagesOf}
@@ -14,6 +14,7 @@ use Rattle.reach.specs.Reach.{isGroup, inMemory, reach, members, reachOn, reach
 use Rattle.separation.specs.declared.Verdict.{Verdict}
 use Rattle.separation.specs.declared.Verdict.the-variants as say
 use Rattle.separation.specs.Apart.{apart, apartOn, verdictNumber}
+use Rattle.translate.specs.Translate.{translateOn, translatedNumber}
 
 pub reached-fits : (g : ℕ) (t m r : List ℕ) → reachedNumber (reachOn g t m r .answer) < 2 ^ 32
 unfolding reachOn
@@ -37,6 +38,18 @@ verdict-fits g t m = go (sound t (length m)) (isGroup g (coresOf t)) (apart g t 
     go true true false = omega arith
     go true false c = omega arith
     go false b c = omega arith
+
+pub translated-fits : (k : ℕ) (l t m r : List ℕ) → translatedNumber (translateOn k l t m r .answer) < 2 ^ 32
+unfolding translateOn
+translated-fits k l t m r =
+    go (sound t (length m)) (ltb k (coresOf t)) (leb (length l) 64) (eqb (length r) (3 * length l)) refl refl refl refl
+  where
+    go : (a b c d : Bool) → sound t (length m) ≡ a → ltb k (coresOf t) ≡ b → leb (length l) 64 ≡ c → eqb (length r) (3 * length l) ≡ d → translatedNumber (translateOn k l t m r .answer) < 2 ^ 32
+    go true true true true p q s u = rw (p, q, s, u) (omega arith)
+    go true true true false p q s u = rw (p, q, s, u) (omega arith)
+    go true true false d p q s u = rw (p, q, s) (omega arith)
+    go true false c d p q s u = rw (p, q) (omega arith)
+    go false b c d p q s u = rw p (omega arith)
 
 -- 1 is the number of a yes
 pub yes-number : (v : Verdict) → verdictNumber v ≡ 1 → v ≡ say.Yes

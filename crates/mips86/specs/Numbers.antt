@@ -1,6 +1,6 @@
 -- What the interface for C answers, as one number. For a step it is answerNumber (steps, specs/Answers), for a run stopNumber (machine, specs/Run), for reach reachedNumber,
 -- and beyondOf for the word at `beyond` (reach, specs/Reach), for apart verdictNumber (separation, specs/Apart), for why
--- and its nine words told (reasons, specs/Why).
+-- and its nine words told (reasons, specs/Why), for translate translatedNumber, and readsOf for the word at `reads` (translate, specs/Translate).
 -- Assumes nothing.
 use Prim.Native.Nat.{ℕ, zero, suc, _+_}
 use Rattle.tables.specs.declared.make.Made.{Made}

@@ -1,10 +1,11 @@
-// The interface for C and Rust (include/mips86.h): make, step, run, reach, apart and why on lent tables and memory. A slice is a pointer and
-// a length in C, and each operation answers one number; run and reach write one more word, why nine.
+// The interface for C and Rust (include/mips86.h): make, step, run, reach, apart, why and translate on lent tables and memory. A slice is a pointer and
+// a length in C, and each operation answers one number; run, reach and translate write one more word, why nine.
 use machine::run::Stop;
 use reach::Reached;
 use separation::Verdict;
 use steps::Answer;
 use tables::make::Made;
+use translate::Translated;
 ghost use mathlib.Core.Path.{_≡_};
 ghost use Prim.Native.Nat.{_<_, _^_};
 ghost use lib.ListN.{length};
@@ -16,6 +17,7 @@ ghost use Rattle.reach.specs.Reach.{reachOn, reachedNumber, beyondOf};
 ghost use Rattle.separation.specs.Apart.{apartOn, verdictNumber};
 ghost use Rattle.separation.specs.Separation.{machineOf, Promised};
 ghost use Rattle.reasons.specs.Why.{told};
+ghost use Rattle.translate.specs.Translate.{translateOn, translatedNumber, readsOf};
 ghost use Rattle.mips86.specs.Numbers.{madeNumber, refusalOr0};
 
 fn made_number(a: Made) -> u32
@@ -162,4 +164,42 @@ pub extern "C" fn mips86_why(
     ensures { λ _. ⌜ now (words .exit) ≡ told after group (now (tables .entry)) (now (memory .entry)) (now (words .entry)) .words ⌝ }
 {
     reasons::tell(tables, memory, group, after, words)
+}
+
+fn translated_number(a: Translated) -> u32
+    requires { ⌜ translatedNumber a < 2 ^ 32 ⌝ }
+    ensures { λ r. ⌜ r ≡ translatedNumber a ⌝ }
+{
+    match a {
+        Translated::Done(_) => 0,
+        Translated::Refused(n) => 100 + n,
+    }
+}
+
+fn reads_number(a: Translated) -> u32
+    ensures { λ r. ⌜ r ≡ readsOf a ⌝ }
+{
+    match a {
+        Translated::Done(n) => n,
+        Translated::Refused(_) => 0,
+    }
+}
+
+// Where up to 64 virtual addresses of a core lead, three words each: 0, or 100 and the number of a refusal; and how many table entries were read.
+#[no_mangle]
+pub extern "C" fn mips86_translate(
+    tables: &[u32],
+    memory: &[u8],
+    core: u32,
+    addresses: &[u32],
+    answers: &mut [u32],
+    reads: &mut u32,
+) -> u32
+    ensures { λ r. ⌜ r ≡ translatedNumber (translateOn core (now (addresses .entry)) (now (tables .entry)) (now (memory .entry)) (now (answers .entry)) .answer) ⌝ }
+    ensures { λ _. ⌜ now (reads .exit) ≡ readsOf (translateOn core (now (addresses .entry)) (now (tables .entry)) (now (memory .entry)) (now (answers .entry)) .answer) ⌝ }
+    ensures { λ _. ⌜ now (answers .exit) ≡ translateOn core (now (addresses .entry)) (now (tables .entry)) (now (memory .entry)) (now (answers .entry)) .words ⌝ }
+{
+    let r = translate::translate(tables, memory, core, addresses, answers);
+    *reads = reads_number(r);
+    translated_number(r)
 }

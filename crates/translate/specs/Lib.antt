@@ -1,0 +1,2 @@
+pub mod Translate
+pub mod inner
