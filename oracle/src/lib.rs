@@ -15,9 +15,11 @@ pub mod program;
 pub mod reach;
 pub mod sides;
 pub mod soundness;
+pub mod translate;
 pub mod vectors;
 pub mod ways;
 
 pub use machine::{make, run, step, Answer, Run, Stop, Why};
 pub use reach::{apart, reach};
 pub use soundness::{sound, Clause};
+pub use translate::translate;
