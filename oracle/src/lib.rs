@@ -16,6 +16,8 @@ pub mod reach;
 pub mod sides;
 pub mod soundness;
 pub mod translate;
+pub mod translations;
+pub mod translations_counts;
 pub mod vectors;
 pub mod ways;
 
