@@ -98,6 +98,14 @@ fn rare(counts: &Counts, machine: &Machine, q: &Translation) -> usize {
     counts.rare(&shown, ENOUGH)
 }
 
+/// A sound machine of any size with a few questions, for trials.
+pub fn sample(rng: &mut Rng) -> (Machine, Vec<Asked>) {
+    let (cores, pages) = (1 + rng.below(4) as usize, 1 + rng.below(8));
+    let (machine, pools) = machine(rng, cores, pages);
+    let asked = (0..6).map(|_| question(rng, &machine, &pools)).collect();
+    (machine, asked)
+}
+
 // ---------------------------------------------------------------- questions
 
 fn core(rng: &mut Rng, machine: &Machine) -> u32 {
