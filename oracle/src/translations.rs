@@ -22,14 +22,11 @@ pub fn translations(seed: u32) -> Vec<Translations> {
     let mut rng = Rng::new(seed as u64 ^ 0x7245_4A57);
     let mut counts = Counts::default();
     let mut all = Vec::new();
-    // Every number of cores and pages, any questions.
-    for pages in 1..=8 {
-        for cores in 1..=4 {
-            let (machine, pools) = machine(&mut rng, cores, pages);
-            let questions = (0..6).map(|_| answer_translation(&machine, &question(&mut rng, &machine, &pools)));
-            let questions = questions.collect();
-            all.push(finish(machine, questions, &mut counts));
-        }
+    // Every number of cores and pages twice, any questions.
+    for n in 0..64 {
+        let (machine, pools) = machine(&mut rng, 1 + n % 4, 1 + n as u32 / 4 % 8);
+        let questions = (0..8).map(|_| answer_translation(&machine, &question(&mut rng, &machine, &pools))).collect();
+        all.push(finish(machine, questions, &mut counts));
     }
     // Damaged tables: questions of which there are few, where one is found.
     for (clause, _) in CLAUSES.iter().cycle().take(3 * CLAUSES.len()) {
@@ -76,6 +73,7 @@ pub fn translations(seed: u32) -> Vec<Translations> {
     all
 }
 
+/// A machine whose first broken clause is this one.
 fn broken(rng: &mut Rng, clause: Clause) -> Machine {
     (0..1000).find_map(|_| damaged(rng, clause)).expect("can be damaged so")
 }

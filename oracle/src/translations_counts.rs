@@ -56,7 +56,7 @@ const AFTER: [&str; 6] = [
     "after beyond by pto",
 ];
 
-const FACTS: [&str; 63] = [
+const FACTS: [&str; 64] = [
     "the core does not run",
     "the core is in system mode",
     "the core has a mode word other than 0 and 1",
@@ -68,6 +68,7 @@ const FACTS: [&str; 63] = [
     "an address after which only earlier ones follow",
     "64 pages of one region of 4 MiB",
     "64 pages of 64 regions",
+    "ten addresses or more, no two of neighbouring regions",
     "found, low 12 bits set",
     "found, low 12 bits zero",
     "found by first-level entry 0",
@@ -407,6 +408,8 @@ impl Facts {
         self.told((1..asked.len().max(2) - 1).any(last), "an address after which only earlier ones follow");
         self.told(pages.len() == 64 && regions.len() == 1, "64 pages of one region of 4 MiB");
         self.told(regions.len() == 64, "64 pages of 64 regions");
+        let scattered = regions.len() == asked.len() && regions.iter().all(|r| !regions.contains(&(r + 1)));
+        self.told(asked.len() >= 10 && scattered, "ten addresses or more, no two of neighbouring regions");
         let found =
             |what: fn(u32) -> bool| asked.iter().zip(trails).any(|(&a, trail)| trail.answer[0] == FOUND && what(a));
         self.told(found(|a| a & 0xFFF != 0), "found, low 12 bits set");
