@@ -280,7 +280,7 @@ impl Counts {
         let mut facts = Facts::default();
         facts.about_cores(t, m, core, asked, &trails);
         facts.about_addresses(asked, &trails);
-        facts.about_entries(t, m, core, q.reads, &trails);
+        facts.about_entries(m, q.reads, &trails);
         facts.about_found(&trails, pages);
         facts.about_state(t, m, core, asked, &trails);
         facts.names.iter().for_each(|name| self.add("t fact", name));
@@ -420,7 +420,7 @@ impl Facts {
         self.told(found(|a| a >> 12 & 1023 == 1023), "found by second-level entry 1023");
     }
 
-    fn about_entries(&mut self, t: &[u32], m: &[u8], core: u32, reads: u32, trails: &[Trail]) {
+    fn about_entries(&mut self, m: &[u8], reads: u32, trails: &[Trail]) {
         let met = || trails.iter().flat_map(|trail| &trail.entries).copied();
         let n = trails.len();
         self.told(met().any(|(place, _)| place == 0), "the first word of memory is an entry that is read");
@@ -468,18 +468,6 @@ impl Facts {
         self.told(reads == 128, "reads 128");
         let entries = met().filter(|(_, pte)| pte.is_some()).count();
         self.told((reads as usize) < entries, "reads fewer than the entries of the separate walks");
-
-        // What pto with its low bits would give.
-        let pto = t[block(core as usize) + PTO];
-        let shifted = |trail: &Trail| {
-            let (place, pte) = trail.entries[0];
-            word(m, place + (pto & 0xFFF)).is_some_and(|other| {
-                let differs = |pte: u32| (pte_present(pte), pte_base(pte));
-                pte.is_some_and(|pte| differs(pte) != differs(other))
-            })
-        };
-        let low = pto & 0xFFF != 0 && trails.iter().any(shifted);
-        self.told(low, "pto's low bits would give another answer");
     }
 
     fn about_found(&mut self, trails: &[Trail], pages: u32) {
@@ -521,6 +509,16 @@ impl Facts {
     /// Walks and pending stores that would say otherwise, and absent entries.
     fn about_state(&mut self, t: &[u32], m: &[u8], core: u32, asked: &[u32], trails: &[Trail]) {
         let b = block(core as usize);
+        // The walk from pto as an address, low bits and all.
+        let low = t[b + PTO] & 0xFFF;
+        let moved = |a: u32, place: u32| match word(m, place.wrapping_add(low)) {
+            None => [BEYOND, 0, 0],
+            Some(pte) if !pte_present(pte) => [ABSENT, 2, 0],
+            Some(pte) => trail_from(m, 1, pte_base(pte), a).answer,
+        };
+        let otherwise = asked.iter().zip(trails).any(|(&a, mine)| moved(a, mine.entries[0].0) != mine.answer);
+        self.told(low != 0 && otherwise, "pto's low bits would give another answer");
+
         let walks = walks_of(t, b);
         let asid = t[b + ASID] & 63;
         for (&a, mine) in asked.iter().zip(trails) {
