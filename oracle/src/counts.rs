@@ -134,6 +134,7 @@ pub struct Counts {
     map: BTreeMap<(&'static str, String), u64>,
     pub vectors: u64,
     pub steps: u64,
+    pub addresses: u64,
 }
 
 impl Counts {
@@ -143,6 +144,21 @@ impl Counts {
 
     pub fn get(&self, section: &'static str, name: &str) -> u64 {
         self.map.get(&(section, name.to_string())).copied().unwrap_or(0)
+    }
+
+    /// Adds what another has counted.
+    pub(crate) fn merge(&mut self, other: &Counts) {
+        for ((section, name), times) in &other.map {
+            *self.map.entry((section, name.clone())).or_default() += times;
+        }
+        self.vectors += other.vectors;
+        self.steps += other.steps;
+        self.addresses += other.addresses;
+    }
+
+    /// How many rows of another have not yet occurred `enough` times here.
+    pub(crate) fn rare(&self, other: &Counts, enough: u64) -> usize {
+        other.map.keys().filter(|row| self.map.get(row).is_none_or(|&times| times < enough)).count()
     }
 
     fn event(&mut self, name: &'static str) {

@@ -4,15 +4,18 @@ use oracle::counts::Counts;
 use oracle::machine::step;
 use oracle::soundness::*;
 use oracle::ways::CONDITIONS;
-use oracle::{demand3, generate, groups, isa, program, vectors};
+use oracle::{demand3, generate, groups, isa, program, translations, vectors};
 use std::io::{Read, Write};
 
 const HELP: &str = "\
 oracle simulate < INPUT        the run program: input to answers
 oracle vectors SEED > FILE     make the steps file
 oracle groups SEED > FILE      make the groups file (reach and apart)
-oracle replay FILE [N]         each answer and what changed (vector N alone)
-oracle check FILE              replay a steps or groups file and compare
+oracle translations SEED > FILE
+                               make the translations file (translate)
+oracle replay FILE [N]         each answer of a steps or translations file, and
+                               what changed (vector or machine N alone)
+oracle check FILE              replay a file of any kind and compare
 oracle counts FILE             how often each thing occurs
 oracle demand3 SEED N [C [on]] demand 3 on N pairs of machines (condition C, 1 to 9,
                                off; on: a changed table byte does not end a pair)
@@ -25,6 +28,9 @@ fn main() {
         ["simulate"] => simulate(),
         ["vectors", seed] => number(seed).and_then(|s| print(&vectors::write_steps(&generate::steps(s), s))),
         ["groups", seed] => number(seed).and_then(|s| print(&vectors::write_groups(&groups::groups(s), s))),
+        ["translations", seed] => {
+            number(seed).and_then(|s| print(&vectors::write_translations(&translations::translations(s), s)))
+        }
         ["replay", file] => replay(file, None),
         ["replay", file, n] => number(n).and_then(|n| replay(file, Some(n as usize))),
         ["check", file] => check(file),
@@ -64,8 +70,29 @@ fn is_groups(bytes: &[u8]) -> bool {
     bytes.starts_with(vectors::GROUPS_MAGIC)
 }
 
+fn is_translations(bytes: &[u8]) -> bool {
+    bytes.starts_with(vectors::TRANSLATIONS_MAGIC)
+}
+
 fn check(file: &str) -> Outcome {
     let bytes = load(file)?;
+    if is_translations(&bytes) {
+        let (all, _) = vectors::read_translations(&bytes)?;
+        let mut questions = 0;
+        for (n, g) in all.iter().enumerate() {
+            let asked: Vec<vectors::Asked> = g.questions.iter().map(|q| q.asked.clone()).collect();
+            let again = vectors::answer_translations(g.machine.clone(), &asked);
+            if let Some(i) = (0..asked.len()).find(|&i| again.questions[i] != g.questions[i]) {
+                return Err(format!("machine {n} differs at question {i}"));
+            }
+            if again != *g {
+                return Err(format!("machine {n} differs in its check sum"));
+            }
+            questions += asked.len();
+        }
+        println!("{} machines, {questions} questions agree", all.len());
+        return Ok(());
+    }
     if is_groups(&bytes) {
         let (groups, _) = vectors::read_groups(&bytes)?;
         for (n, g) in groups.iter().enumerate() {
@@ -97,6 +124,10 @@ fn check(file: &str) -> Outcome {
 fn counts(file: &str) -> Outcome {
     let bytes = load(file)?;
     let mut counts = Counts::default();
+    if is_translations(&bytes) {
+        vectors::read_translations(&bytes)?.0.iter().for_each(|g| counts.translations(g));
+        return print(counts.print_translations().as_bytes());
+    }
     if is_groups(&bytes) {
         vectors::read_groups(&bytes)?.0.iter().for_each(|g| counts.groups(g));
         return print(counts.print_groups().as_bytes());
@@ -124,7 +155,11 @@ fn demand(seed: u32, pairs: u32, off: Option<u32>, tables: bool) -> Outcome {
 }
 
 fn replay(file: &str, only: Option<usize>) -> Outcome {
-    let (all, _) = vectors::read_steps(&load(file)?)?;
+    let bytes = load(file)?;
+    if is_translations(&bytes) {
+        return replay_translations(&bytes, only);
+    }
+    let (all, _) = vectors::read_steps(&bytes)?;
     let mut out = String::new();
     for (n, v) in all.iter().enumerate().filter(|(n, _)| only.is_none_or(|o| o == *n)) {
         let (mut t, mut m) = (v.machine.tables.clone(), v.machine.memory.clone());
@@ -161,6 +196,49 @@ fn replay(file: &str, only: Option<usize>) -> Outcome {
             "run of {} words, limit {}: refusal {}, accepted {}, stop {}\n",
             r.words, r.limit, r.refusal, r.accepted, r.stop
         );
+    }
+    print(out.as_bytes())
+}
+
+/// Each question, and where answered each address with its three words and
+/// the addresses of the entries that it needs.
+fn replay_translations(bytes: &[u8], only: Option<usize>) -> Outcome {
+    let mut out = String::new();
+    let (all, _) = vectors::read_translations(bytes)?;
+    for (n, g) in all.iter().enumerate().filter(|(n, _)| only.is_none_or(|o| o == *n)) {
+        let (t, m) = (&g.machine.tables, &g.machine.memory);
+        out += &format!("machine {n}: {} cores, {} pages", g.machine.cores, g.machine.pages);
+        match sound(t, m) {
+            Ok(()) => out += "\n",
+            Err(clause) => out += &format!(", not sound: {}\n", CLAUSES[clause as usize - 1].1),
+        }
+        if vectors::checksum(t, m) != g.sum {
+            out += "  FILE HAS ANOTHER CHECK SUM\n";
+        }
+        for (place, q) in g.questions.iter().enumerate() {
+            let a = &q.asked;
+            let again = vectors::answer_translation(&g.machine, a);
+            out += &format!("{place} core {}, {} addresses, {} words: ", a.core, a.addresses.len(), a.words);
+            out += &match again.answer {
+                0 => format!("{} reads", again.reads),
+                refused => format!("refused {}", refused - 100),
+            };
+            if (again.answer, again.reads) != (q.answer, q.reads) {
+                out += &format!("  FILE SAYS {}, {} reads", q.answer, q.reads);
+            } else if again.sum != q.sum {
+                out += "  FILE HAS ANOTHER CHECK SUM";
+            }
+            out.push('\n');
+            for &address in a.addresses.iter().filter(|_| again.answer == 0) {
+                let trail = oracle::translate::trail(t, m, a.core, address);
+                let [what, x, y] = trail.answer;
+                out += &format!("    {address:08X}: {what} {x:X} {y}, entries");
+                for (at, pte) in trail.entries {
+                    out += &pte.map_or(format!(" {at:X} beyond"), |pte| format!(" {at:X} ({pte:08X})"));
+                }
+                out.push('\n');
+            }
+        }
     }
     print(out.as_bytes())
 }

@@ -4,12 +4,16 @@
 use crate::machine::{make, run, step, Answer, Stop};
 use crate::reach::{apart, reach};
 use crate::soundness::{table_words, PAGE};
+use crate::translate::translate;
 
 pub const STEPS_MAGIC: &[u8; 4] = b"M86S";
 pub const GROUPS_MAGIC: &[u8; 4] = b"M86G";
+pub const TRANSLATIONS_MAGIC: &[u8; 4] = b"M86T";
 pub const VERSION: u32 = 1;
 /// Each map byte before a call of reach.
 pub const MAP_FILL: u8 = 0xEE;
+/// Each answer word before a call of translate.
+pub const ANSWER_FILL: u32 = 0xEEEE_EEEE;
 
 /// A machine as handed to the operations. `tables` and `memory` have the
 /// lengths handed in, which for damaged machines may disagree with the words.
@@ -70,6 +74,33 @@ pub struct Groups {
     pub questions: Vec<Question>,
 }
 
+/// What translate is asked.
+#[derive(Clone, PartialEq, Debug)]
+pub struct Asked {
+    pub core: u32,
+    pub addresses: Vec<u32>,
+    /// Words of the answer buffer handed over.
+    pub words: u8,
+}
+
+#[derive(Clone, PartialEq, Debug)]
+pub struct Translation {
+    pub asked: Asked,
+    /// 0, or 100 + refusal.
+    pub answer: u8,
+    /// 0 where refused.
+    pub reads: u32,
+    /// Check sum of the answer words after the call.
+    pub sum: u32,
+}
+
+#[derive(Clone, PartialEq, Debug)]
+pub struct Translations {
+    pub machine: Machine,
+    pub sum: u32,
+    pub questions: Vec<Translation>,
+}
+
 // ---------------------------------------------------------------- check sums
 
 /// One step of the check sum.
@@ -85,6 +116,10 @@ pub fn checksum(t: &[u32], m: &[u8]) -> u32 {
 
 pub fn map_sum(map: &[u8]) -> u32 {
     map.iter().fold(0, |h, &byte| add(h, byte as u32))
+}
+
+pub fn answer_sum(answers: &[u32]) -> u32 {
+    answers.iter().fold(0, |h, &word| add(h, word))
 }
 
 // ---------------------------------------------------------------- making
@@ -142,6 +177,23 @@ pub fn answer_groups(machine: Machine, asked: &[(u32, u16)]) -> Groups {
         })
         .collect();
     Groups { sum: checksum(t, m), machine, questions }
+}
+
+/// The answer of translate to one question.
+pub fn answer_translation(machine: &Machine, asked: &Asked) -> Translation {
+    let mut answers = vec![ANSWER_FILL; asked.words as usize];
+    let (answer, reads) = match translate(&machine.tables, &machine.memory, asked.core, &asked.addresses, &mut answers)
+    {
+        Ok(reads) => (0, reads),
+        Err(number) => (100 + number as u8, 0),
+    };
+    Translation { asked: asked.clone(), answer, reads, sum: answer_sum(&answers) }
+}
+
+/// Answers of translate to some questions.
+pub fn answer_translations(machine: Machine, asked: &[Asked]) -> Translations {
+    let questions = asked.iter().map(|asked| answer_translation(&machine, asked)).collect();
+    Translations { sum: checksum(&machine.tables, &machine.memory), machine, questions }
 }
 
 // ---------------------------------------------------------------- writing
@@ -253,6 +305,21 @@ impl Writer {
             self.u8(q.apart);
         }
     }
+
+    fn translations(&mut self, g: &Translations) {
+        self.machine(&g.machine);
+        self.u32(g.sum);
+        self.u16(g.questions.len() as u16);
+        for q in &g.questions {
+            self.u32(q.asked.core);
+            self.u8(q.asked.addresses.len() as u8);
+            self.u8(q.asked.words);
+            q.asked.addresses.iter().for_each(|&address| self.u32(address));
+            self.u8(q.answer);
+            self.u32(q.reads);
+            self.u32(q.sum);
+        }
+    }
 }
 
 pub fn write_steps(vectors: &[Vector], seed: u32) -> Vec<u8> {
@@ -266,6 +333,13 @@ pub fn write_groups(groups: &[Groups], seed: u32) -> Vec<u8> {
     let mut w = Writer::default();
     w.header(GROUPS_MAGIC, groups.len(), seed);
     groups.iter().for_each(|g| w.groups(g));
+    w.bytes
+}
+
+pub fn write_translations(all: &[Translations], seed: u32) -> Vec<u8> {
+    let mut w = Writer::default();
+    w.header(TRANSLATIONS_MAGIC, all.len(), seed);
+    all.iter().for_each(|g| w.translations(g));
     w.bytes
 }
 
@@ -396,6 +470,20 @@ impl Reader<'_> {
         }
         Ok(Groups { machine, sum, questions })
     }
+
+    fn translations(&mut self) -> Read<Translations> {
+        let machine = self.machine()?;
+        let sum = self.u32()?;
+        let count = self.u16()?;
+        let mut questions = Vec::new();
+        for _ in 0..count {
+            let (core, n, words) = (self.u32()?, self.u8()?, self.u8()?);
+            let addresses = (0..n).map(|_| self.u32()).collect::<Read<Vec<u32>>>()?;
+            let asked = Asked { core, addresses, words };
+            questions.push(Translation { asked, answer: self.u8()?, reads: self.u32()?, sum: self.u32()? });
+        }
+        Ok(Translations { machine, sum, questions })
+    }
 }
 
 /// The vectors of a steps file and its seed.
@@ -418,4 +506,15 @@ pub fn read_groups(bytes: &[u8]) -> Read<(Vec<Groups>, u32)> {
         return Err("bytes after the last machine".into());
     }
     Ok((groups, seed))
+}
+
+/// The machines of a translations file and its seed.
+pub fn read_translations(bytes: &[u8]) -> Read<(Vec<Translations>, u32)> {
+    let mut r = Reader { bytes };
+    let (count, seed) = r.header(TRANSLATIONS_MAGIC)?;
+    let all = (0..count).map(|_| r.translations()).collect::<Read<Vec<_>>>()?;
+    if !r.bytes.is_empty() {
+        return Err("bytes after the last machine".into());
+    }
+    Ok((all, seed))
 }

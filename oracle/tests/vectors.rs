@@ -4,10 +4,11 @@
 use oracle::counts::Counts;
 use oracle::machine::step;
 use oracle::soundness::*;
-use oracle::{generate, groups, isa, run, sound, vectors, Answer, Stop};
+use oracle::{generate, groups, isa, run, sound, translations, vectors, Answer, Stop};
 
 const STEPS: &[u8] = include_bytes!("../vectors/steps.bin");
 const GROUPS: &[u8] = include_bytes!("../vectors/groups.bin");
+const TRANSLATIONS: &[u8] = include_bytes!("../vectors/translations.bin");
 const README: &str = include_str!("../README.md");
 
 #[test]
@@ -16,6 +17,9 @@ fn the_seed_makes_the_files() {
     assert!(vectors::write_steps(&generate::steps(seed), seed) == STEPS, "steps.bin");
     let (_, seed) = vectors::read_groups(GROUPS).unwrap();
     assert!(vectors::write_groups(&groups::groups(seed), seed) == GROUPS, "groups.bin");
+    let (_, seed) = vectors::read_translations(TRANSLATIONS).unwrap();
+    let made = vectors::write_translations(&translations::translations(seed), seed);
+    assert!(made == TRANSLATIONS, "translations.bin");
 }
 
 /// Every answer and check sum; soundness is kept; a refused step changes the
@@ -86,6 +90,28 @@ fn groups_are_as_the_file_says() {
     }
 }
 
+/// Every answer; the numbers stay where README.md says; where refused, reads
+/// are 0 and the words as before.
+#[test]
+fn translations_are_as_the_file_says() {
+    assert!(TRANSLATIONS.len() < 600_000);
+    for g in vectors::read_translations(TRANSLATIONS).unwrap().0 {
+        assert!(g.questions.len() <= 40);
+        assert_eq!(
+            sound(&g.machine.tables, &g.machine.memory).map_err(|c| c as u8).err().unwrap_or(0),
+            g.machine.damage
+        );
+        for q in &g.questions {
+            assert!(q.asked.addresses.len() <= 66 && q.asked.words <= 200);
+            assert!(q.answer == 104 || g.machine.damage == 0);
+            let untouched = vectors::answer_sum(&vec![vectors::ANSWER_FILL; q.asked.words as usize]);
+            assert!(q.answer == 0 || (q.reads, q.sum) == (0, untouched));
+        }
+        let asked: Vec<vectors::Asked> = g.questions.iter().map(|q| q.asked.clone()).collect();
+        assert_eq!(vectors::answer_translations(g.machine.clone(), &asked), g);
+    }
+}
+
 /// Each thing that can occur does so twenty times, and README.md has the
 /// tables that `oracle counts` prints.
 #[test]
@@ -109,6 +135,13 @@ fn counts() {
         assert!(counts.get("groups damage", text) >= 2, "{text}");
     }
     assert!(README.contains(&counts.print_groups()), "counts of groups.bin in README.md");
+    let mut counts = Counts::default();
+    vectors::read_translations(TRANSLATIONS).unwrap().0.iter().for_each(|g| counts.translations(g));
+    for (section, name) in Counts::expected_translations() {
+        let times = counts.get(section, &name);
+        assert!(times >= 24, "{section}: {name} occurs {times} times");
+    }
+    assert!(README.contains(&counts.print_translations()), "counts of translations.bin in README.md");
 }
 
 /// Reach and apart agree with the plain listing of ways and conditions.
