@@ -1,11 +1,10 @@
-// Asks reach and apart the questions of the groups file, and compares.
+// Asks reach and apart a question of the groups file, and compares.
 use super::input;
 use super::replay;
 use super::report;
 use reach::Reached;
 use separation::Verdict;
-ghost use mathlib.Core.Path.{_≡_};
-ghost use Prim.Native.Nat.{_≤_, _<_};
+ghost use Prim.Native.Nat.{_≤_};
 ghost use lib.ListN.{length};
 
 // 0, or 100 and the number of a refusal.
@@ -97,60 +96,7 @@ fn question_in(v: u32, j: u32, t: &[u32], m: &[u8], map: &mut [u8], tally: &mut 
     apart_asked(v, j, t, m, group, tally);
 }
 
-fn question(v: u32, j: u32, t: &[u32], m: &[u8], tally: &mut [u32]) {
+pub fn question(v: u32, j: u32, t: &[u32], m: &[u8], tally: &mut [u32]) {
     let mut map = [0xEEu8; 16];
     question_in(v, j, t, m, &mut map, tally);
-}
-
-fn questions(v: u32, t: &[u32], m: &[u8], n: u32, tally: &mut [u32]) {
-    let mut j: u32 = 0;
-    while j < n {
-        question(v, j, t, m, tally);
-        j += 1;
-    }
-}
-
-// One machine and its questions, in the room lent. Answers whether it has the form of one.
-fn group_in(v: u32, t: &mut [u32], m: &mut [u8], tally: &mut [u32]) -> bool
-    requires { ⌜ (length (now t) ≡ 1056) × (length (now m) ≡ 32768) ⌝ }
-{
-    let shape = input::sizes();
-    if !input::machine(t, m, shape.cores, shape.pages) {
-        return false;
-    }
-    let words = shape.words;
-    let bytes = shape.bytes;
-    let before = input::number(4);
-    report::count(tally, report::MACHINES);
-    report::compare(
-        tally,
-        v,
-        b" sum of machine ",
-        0,
-        replay::sum_of(&t[..words], &m[..bytes]),
-        before,
-    );
-    let n = input::number(2);
-    questions(v, &t[..words], &m[..bytes], n, tally);
-    true
-}
-
-fn group(v: u32, tally: &mut [u32]) -> bool {
-    let mut t = [0u32; 1056];
-    let mut m = [0u8; 32768];
-    group_in(v, &mut t, &mut m, tally)
-}
-
-// All machines, up to one that has not the form of one.
-pub fn all(n: u32, tally: &mut [u32]) {
-    let mut v: u32 = 0;
-    while v < n {
-        if !group(v, tally) {
-            report::text(b"no machine: ");
-            report::number(v);
-            report::text(b"\n");
-            return;
-        }
-        v += 1;
-    }
 }

@@ -94,6 +94,15 @@ fn put_words(t: &mut [u32], start: usize, b: &[u8], n: usize)
     }
 }
 
+// So many words of the file, to a place of t and on.
+pub fn words(t: &mut [u32], start: usize, n: usize)
+    requires { ⌜ (start + n ≤ length (now t)) × (n ≤ 1056) ⌝ }
+{
+    let mut b = [0u8; 4224];
+    fill(&mut b, 4 * n);
+    put_words(t, start, &b, n);
+}
+
 fn table_run(t: &mut [u32]) -> Runs
     requires { ⌜ length (now t) ≡ 1056 ⌝ }
 {
@@ -105,9 +114,7 @@ fn table_run(t: &mut [u32]) -> Runs
     if 1056 < start + n {
         return Runs::Past;
     }
-    let mut b = [0u8; 4224];
-    fill(&mut b, 4 * n);
-    put_words(t, start, &b, n);
+    words(t, start, n);
     Runs::More
 }
 

@@ -34,7 +34,7 @@ fn mix(h: u32, w: u32) -> u32 {
     (((h as u64) * 16777619 + w as u64) % 0x1_0000_0000) as u32
 }
 
-fn sum_words(h: u32, l: &[u32]) -> u32 {
+pub fn sum_words(h: u32, l: &[u32]) -> u32 {
     let mut sum = h;
     let mut i: usize = 0;
     while i < l.len() {

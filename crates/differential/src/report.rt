@@ -4,6 +4,7 @@ use machine::run::Stop;
 use reach::Reached;
 use separation::Verdict;
 use steps::Answer;
+use translate::Translated;
 ghost use Prim.Native.Nat.{_≤_};
 
 // The places of the tally. Refusals and levels are at the place and their number.
@@ -29,29 +30,44 @@ pub const RUN_LIMIT: usize = 65;
 
 pub const RUN_REFUSALS: usize = 66;
 
-pub const MACHINES: usize = 80;
+pub const MACHINES: usize = 86;
 
-pub const QUESTIONS: usize = 81;
+pub const QUESTIONS: usize = 87;
 
-pub const REACH_INSIDE: usize = 82;
+pub const REACH_INSIDE: usize = 88;
 
-pub const REACH_BEYOND: usize = 83;
+pub const REACH_BEYOND: usize = 89;
 
-pub const REACH_REFUSALS: usize = 84;
+pub const REACH_REFUSALS: usize = 90;
 
-pub const APART_NO: usize = 98;
+pub const APART_NO: usize = 110;
 
-pub const APART_YES: usize = 99;
+pub const APART_YES: usize = 111;
 
-pub const APART_REFUSALS: usize = 100;
+pub const APART_REFUSALS: usize = 112;
 
-pub const TALLY: usize = 114;
+pub const TRANSLATE_MACHINES: usize = 132;
+
+pub const TRANSLATE_QUESTIONS: usize = 133;
+
+pub const TRANSLATE_ADDRESSES: usize = 134;
+
+pub const TRANSLATE_DONE: usize = 135;
+
+pub const TRANSLATE_REFUSALS: usize = 136;
+
+pub const TALLY: usize = 156;
+
+// So many more at a place.
+fn add(tally: &mut [u32], place: usize, n: u32) {
+    if place < tally.len() {
+        tally[place] = word::add(tally[place], n);
+    }
+}
 
 // One more at a place.
 pub fn count(tally: &mut [u32], place: usize) {
-    if place < tally.len() {
-        tally[place] = word::add(tally[place], 1);
-    }
+    add(tally, place, 1);
 }
 
 fn counted(tally: &[u32], place: usize) -> u32 {
@@ -107,11 +123,11 @@ pub fn answer(tally: &mut [u32], kind: usize, a: Answer)
     }
 }
 
-// A level or a refusal as a place: none is over 13.
+// A level or a refusal as a place: none is over 19.
 fn numbered(n: u32) -> usize
-    ensures { λ r. ⌜ r ≤ 13 ⌝ }
+    ensures { λ r. ⌜ r ≤ 19 ⌝ }
 {
-    if n < 13 { n as usize } else { 13 }
+    if n < 19 { n as usize } else { 19 }
 }
 
 pub fn stop(tally: &mut [u32], s: Stop) {
@@ -139,6 +155,16 @@ pub fn verdict(tally: &mut [u32], a: Verdict) {
     }
 }
 
+// The answer for n addresses.
+pub fn translated(tally: &mut [u32], a: Translated, n: u32) {
+    count(tally, TRANSLATE_QUESTIONS);
+    add(tally, TRANSLATE_ADDRESSES, n);
+    match a {
+        Translated::Done(_) => count(tally, TRANSLATE_DONE),
+        Translated::Refused(number) => count(tally, TRANSLATE_REFUSALS + numbered(number)),
+    }
+}
+
 // ---- the lines at the end
 
 fn row(name: &[u8], n: u32) {
@@ -149,7 +175,7 @@ fn row(name: &[u8], n: u32) {
 
 // The numbers of a part of the tally, each with a name and its number.
 fn rows(name: &[u8], tally: &[u32], place: usize, from: u32, to: u32)
-    requires { ⌜ (place ≤ 100) × (to ≤ 16) ⌝ }
+    requires { ⌜ (place ≤ 136) × (to ≤ 20) ⌝ }
 {
     let mut n = from;
     while n < to {
@@ -192,5 +218,14 @@ pub fn all(tally: &[u32]) {
     row(b"apart yes ", counted(tally, APART_YES));
     row(b"apart refused 4 ", counted(tally, APART_REFUSALS + 4));
     row(b"apart refused 13 ", counted(tally, APART_REFUSALS + 13));
+    row(b"translate machines ", counted(tally, TRANSLATE_MACHINES));
+    row(b"translate questions ", counted(tally, TRANSLATE_QUESTIONS));
+    row(b"translate addresses ", counted(tally, TRANSLATE_ADDRESSES));
+    row(b"translate answered ", counted(tally, TRANSLATE_DONE));
+    row(
+        b"translate refused 4 ",
+        counted(tally, TRANSLATE_REFUSALS + 4),
+    );
+    rows(b"translate refused ", tally, TRANSLATE_REFUSALS, 14, 17);
     row(b"differences ", counted(tally, DIFFERENCES));
 }

@@ -2,20 +2,20 @@ use mathlib.Core.Path.{_≡_}
 use Prim.Native.Nat.{_-_, _≤_}
 use lib.ListN.{length}
 use borrow.Author.Needs.{needs}
-use Rattle.differential.proofs.groups.all.Statement.{statement}
-use Rattle.differential.proofs.groups.all.Tie as tie
+use Rattle.differential.proofs.machines.all.Statement.{statement}
+use Rattle.differential.proofs.machines.all.Tie as tie
 
 abbrev Inv-loop : tie.InvT-loop
-Inv-loop n tally₀ v₀ t4 t5 tally v = length tally ≡ length tally₀
+Inv-loop about n tally₀ v₀ t4 t5 tally v = length tally ≡ length tally₀
 
 abbrev μ-loop : tie.MeasureT-loop
-μ-loop n tally₀ v₀ t4 t5 tally v = n - v
+μ-loop about n tally₀ v₀ t4 t5 tally v = n - v
 
 loop-holds : tie.Need-loop-holds Inv-loop μ-loop
 loop-holds c = search needs
 
-group-requires : tie.Need-group-requires Inv-loop μ-loop
-group-requires c κs = search needs
+machine-requires : tie.Need-machine-requires Inv-loop μ-loop
+machine-requires c κs = search needs
 
 slice-aggregate-text : tie.Need-slice-aggregate-text Inv-loop μ-loop
 slice-aggregate-text c = search needs
@@ -60,7 +60,7 @@ all-spec =
     Inv-loop
     μ-loop
     loop-holds
-    group-requires
+    machine-requires
     slice-aggregate-text
     text-requires
     number-requires

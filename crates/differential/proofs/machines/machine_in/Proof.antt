@@ -1,8 +1,8 @@
 use mathlib.Core.Path.{sym}
 use lib.Seq.{length-take-le}
 use borrow.Author.Needs.{needs}
-use Rattle.differential.proofs.groups.group_in.Statement.{statement}
-use Rattle.differential.proofs.groups.group_in.Tie as tie
+use Rattle.differential.proofs.machines.machine_in.Statement.{statement}
+use Rattle.differential.proofs.machines.machine_in.Tie as tie
 
 sizes-requires : tie.Need-sizes-requires
 sizes-requires c κs = search needs
@@ -21,6 +21,9 @@ returns c = search needs
 
 number-requires : tie.Need-number-requires
 number-requires c κs = search needs
+
+machines-place-requires : tie.Need-machines-place-requires
+machines-place-requires c κs = search needs
 
 count-requires : tie.Need-count-requires
 count-requires c κs = search needs
@@ -76,8 +79,8 @@ same-length-5 c = search needs
 returns-2 : tie.Need-returns-2
 returns-2 c = search needs
 
-pub group-in-spec : {M : Type 1} → statement M
-group-in-spec =
+pub machine-in-spec : {M : Type 1} → statement M
+machine-in-spec =
     tie.close
     (tie.spec
     sizes-requires
@@ -86,6 +89,7 @@ group-in-spec =
     same-length-2
     returns
     number-requires
+    machines-place-requires
     count-requires
     slice-aggregate-compare
     slice-reshare-prefix-sum-of

@@ -2,14 +2,14 @@ use mathlib.Core.Path.{_≡_}
 use Prim.Native.Nat.{_-_, _≤_}
 use lib.ListN.{length}
 use borrow.Author.Needs.{needs}
-use Rattle.differential.proofs.groups.questions.Statement.{statement}
-use Rattle.differential.proofs.groups.questions.Tie as tie
+use Rattle.differential.proofs.machines.questions.Statement.{statement}
+use Rattle.differential.proofs.machines.questions.Tie as tie
 
 abbrev Inv-loop : tie.InvT-loop
-Inv-loop v t m n tally₀ j₀ tally j = length tally ≡ length tally₀
+Inv-loop about v t m n tally₀ j₀ tally j = length tally ≡ length tally₀
 
 abbrev μ-loop : tie.MeasureT-loop
-μ-loop v t m n tally₀ j₀ tally j = n - j
+μ-loop about v t m n tally₀ j₀ tally j = n - j
 
 loop-holds : tie.Need-loop-holds Inv-loop μ-loop
 loop-holds c = search needs
