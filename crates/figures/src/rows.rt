@@ -3,6 +3,9 @@ use libc::STDOUT_FILENO;
 use machine::run::Ran;
 use machine::run::Stop;
 use steps::Answer;
+use translate::Translated;
+ghost use Prim.Native.Nat.{_≤_};
+ghost use lib.ListN.{length};
 
 pub fn text(t: &[u8]) {
     io::write_all(STDOUT_FILENO, t);
@@ -49,4 +52,31 @@ pub fn ran(r: Ran) {
     text(b" accepted, ");
     let s = r.stop;
     stop(s);
+}
+
+// What translate answered.
+pub fn translated(r: Translated) {
+    match r {
+        Translated::Done(n) => {
+            text(b"read ");
+            number(n);
+        }
+        Translated::Refused(n) => {
+            text(b"refused ");
+            number(n);
+        }
+    }
+}
+
+// The first n words of some, after a colon.
+pub fn list(l: &[u32], n: usize)
+    requires { ⌜ n ≤ length (now l) ⌝ }
+{
+    text(b":");
+    let mut i: usize = 0;
+    while i < n {
+        text(b" ");
+        number(l[i]);
+        i += 1;
+    }
 }
