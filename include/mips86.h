@@ -1,6 +1,7 @@
 /*
  * The MIPS-86 machine with one to four cores: make a machine, take one step, run a schedule; which pages a group of
- * cores reaches, whether the group is kept apart from the others, and why it is not.
+ * cores reaches, whether the group is kept apart from the others, and why it is not; where virtual addresses of a core
+ * lead.
  *
  * The caller lends the machine's tables (32-bit words) and its memory (bytes). All of the machine is in them: nothing
  * is kept between calls, nothing is allocated, and a copy of both is a copy of the machine.
@@ -48,9 +49,10 @@ extern "C" {
 /*
  * What is asked of every call. Each pointer is not null, is aligned for its type, and points to as many words or bytes
  * as the length after it says (with the length 0 it is still not null). What a call may write (all that is not const:
- * tables, memory, the map, the words at `accepted`, `beyond` and `words`) overlaps nothing else that the call is given. Until it
- * returns no other thread writes what a call was lent, or reads what it may write. Calls on different machines may run
- * at the same time. There is no other condition: any words and bytes may be handed over.
+ * tables, memory, the map, the words at `accepted`, `beyond`, `words`, `answers` and `reads`) overlaps nothing else
+ * that the call is given. Until it returns no other thread writes what a call was lent, or reads what it may write.
+ * Calls on different machines may run at the same time. There is no other condition: any words and bytes may be handed
+ * over.
  */
 
 /*
@@ -69,9 +71,12 @@ extern "C" {
  *   12 the map's length is not the page count      (reach)
  *      or the length of the words is not nine      (why)
  *   13 group empty, or names a core not there      (reach, apart, why)
+ *   14 core not there                              (translate)
+ *   15 more than 64 addresses                      (translate)
+ *   16 answers not three words an address          (translate)
  * Where several apply, the first of them is given; of run's, 4 and 11 come before those of a step.
  */
-#define MIPS86_DONE 0u      /* made; the step is done; the end of the schedule; the map is filled */
+#define MIPS86_DONE 0u      /* made; the step is done; the end of the schedule; the map or the answers are filled */
 #define MIPS86_LIMIT 1u     /* run: the limit is spent */
 #define MIPS86_INTERRUPT 1u /* step: plus the level 0 to 7, so 1 to 8 */
 #define MIPS86_NO 0u        /* apart */
@@ -169,6 +174,29 @@ uint32_t mips86_apart(const uint32_t *tables, size_t ntables, const uint8_t *mem
 
 uint32_t mips86_why(const uint32_t *tables, size_t ntables, const uint8_t *memory, size_t nmemory, uint32_t group,
                     uint32_t after, uint32_t *words, size_t nwords);
+
+/*
+ * Where do up to 64 virtual addresses of a core lead? Each is followed by a walk of its own through the page tables in
+ * memory, from the page in the core's pto. The low 12 bits of an address say nothing. Neither the walks that the core
+ * holds nor accessed bits are looked at, nor whether it runs, nor its mode. An address gets three words in `answers`:
+ *    MIPS86_MAPPED, the page, the rights of the last entry: bit 0 write, bit 1 user, bit 2 execute. The page may lie
+ *       anywhere, beyond memory too;
+ *    MIPS86_ABSENT, the level of the table whose entry is not present (2 first, 1 second), 0;
+ *    MIPS86_BEYOND, 0, 0: an entry is beyond memory, as one at a port is.
+ * Answers 0, or a refusal (4, 14, 15, 16), which leaves the answers. Writes to *reads how many different table entries,
+ * by address, all of the addresses need, those beyond memory left out; each of them is read once (0 with a refusal).
+ * Nothing of the machine is written. Uses some 2 KB of stack.
+ */
+#define MIPS86_MOST_ADDRESSES 64
+#define MIPS86_ANSWER_WORDS 3
+
+#define MIPS86_MAPPED 0u
+#define MIPS86_ABSENT 1u
+#define MIPS86_BEYOND 2u
+
+uint32_t mips86_translate(const uint32_t *tables, size_t ntables, const uint8_t *memory, size_t nmemory, uint32_t core,
+                          const uint32_t *addresses, size_t naddresses, uint32_t *answers, size_t nanswers,
+                          uint32_t *reads);
 
 #ifdef __cplusplus
 }

@@ -1,7 +1,8 @@
 //! Times the proved machine beside the plain simulator (`../oracle`) in one process, on the same machines: schedules of
-//! steps, and maps on which reach and apart answer. With an argument only those whose name holds it. See
-//! docs/PERFORMANCE.md.
+//! steps, maps on which reach and apart answer, and addresses that translate follows. With an argument only those whose
+//! name holds it. See docs/PERFORMANCE.md.
 
+mod addresses;
 mod maps;
 mod schedules;
 
@@ -185,6 +186,70 @@ fn time_apart(case: &maps::Case, missed: &mut Missed) {
     print_question("apart", case, &read, &times, missed);
 }
 
+/// Times one way translates; and calls in a row of one time, since one alone is short for the clock.
+const TRANSLATE_REPEATS: usize = 2000;
+const IN_A_ROW: usize = 16;
+
+/// A way to translate the addresses of a core: it fills the answers, and says how many entries were read.
+type Translate = fn(&[u32], &[u8], u32, &[u32], &mut [u32]) -> Result<u32, u32>;
+
+/// Each address by a call of its own; the sum of the entries read.
+fn one_by_one(way: Translate, t: &[u32], m: &[u8], core: u32, list: &[u32], answers: &mut [u32]) -> Result<u32, u32> {
+    let each = list.chunks_exact(1).zip(answers.chunks_exact_mut(mips86::ANSWER_WORDS));
+    each.map(|(address, answer)| way(black_box(t), black_box(m), core, address, answer)).sum()
+}
+
+fn proved_one_by_one(t: &[u32], m: &[u8], core: u32, list: &[u32], answers: &mut [u32]) -> Result<u32, u32> {
+    one_by_one(mips86::translate_into, t, m, core, list, answers)
+}
+
+fn oracle_one_by_one(t: &[u32], m: &[u8], core: u32, list: &[u32], answers: &mut [u32]) -> Result<u32, u32> {
+    one_by_one(oracle::translate, t, m, core, list, answers)
+}
+
+/// Each way's time for all addresses. The ways must agree on the answers, which are pages, and read as many entries as
+/// the case or, one by one, two an address.
+fn translate_times(case: &addresses::Case, ways: &[(Translate, u32)]) -> Vec<Time> {
+    let (t, m, list) = (&case.tables[..], &case.memory[..], &case.addresses[..]);
+    let mut nanos = vec![Vec::with_capacity(TRANSLATE_REPEATS); ways.len()];
+    let mut answers = vec![vec![u32::MAX; mips86::ANSWER_WORDS * list.len()]; ways.len()];
+    for _ in 0..TRANSLATE_REPEATS {
+        for (k, (way, expected)) in ways.iter().enumerate() {
+            let mut reads = Ok(0);
+            answers[k].fill(u32::MAX);
+            let start = Instant::now();
+            for _ in 0..IN_A_ROW {
+                let answers = black_box(&mut answers[k][..]);
+                reads = black_box(way(black_box(t), black_box(m), black_box(case.core), black_box(list), answers));
+            }
+            nanos[k].push(start.elapsed().as_nanos() as f64 / IN_A_ROW as f64);
+            assert_eq!(reads, Ok(*expected), "{}: entries that way {k} reads", case.name);
+        }
+        for (k, words) in answers.iter().enumerate() {
+            assert!(*words == answers[0], "{}: way {k} answers otherwise than way 0", case.name);
+        }
+    }
+    assert!(answers[0].iter().step_by(3).all(|&kind| kind == 0), "{}: each address leads to a page", case.name);
+    nanos.into_iter().map(time).collect()
+}
+
+fn time_translate(case: &addresses::Case) {
+    let (once, each) = (case.reads, 2 * case.addresses.len() as u32);
+    let ways: [(Translate, u32); 4] = [
+        (mips86::translate_into, once),
+        (oracle::translate, once),
+        (proved_one_by_one, each),
+        (oracle_one_by_one, each),
+    ];
+    let times = translate_times(case, &ways);
+    let nanos = |k: usize| format!("{:8.1} / {:8.1}", times[k].best, times[k].median);
+    let ratio = |a: usize, b: usize| times[a].median / times[b].median;
+    println!("\n{}: {once} entries", case.name);
+    println!("  one call   proved {}   plain {}   ratio {:.2}", nanos(0), nanos(1), ratio(0, 1));
+    println!("  64 calls   proved {}   plain {}   ratio {:.2}", nanos(2), nanos(3), ratio(2, 3));
+    println!("  one call to 64 calls: proved {:.3}, plain {:.3}", ratio(0, 2), ratio(1, 3));
+}
+
 fn main() {
     let mut missed = Missed::default();
     let part = std::env::args().nth(1).unwrap_or_default();
@@ -203,6 +268,12 @@ fn main() {
     for case in [maps::sparse(maps::HALF), maps::dense_apart()] {
         if case.name.contains(&part) {
             time_apart(&case, &mut missed);
+        }
+    }
+    println!("\nnanoseconds for 64 addresses, best / median of {TRANSLATE_REPEATS} repeats; ratios of the medians");
+    for case in [1, 4].into_iter().flat_map(addresses::cases) {
+        if case.name.contains(&part) {
+            time_translate(&case);
         }
     }
     println!();

@@ -20,8 +20,8 @@ static void check_at(int line, const char *what, unsigned long found, unsigned l
 #define CHECK(found, expected) check_at(__LINE__, #found, (unsigned long)(found), (unsigned long)(expected))
 
 /* places of the tables */
-enum { CORES = 0, PAGES = 1, REFUSALS = 2, LINES = 3, BLOCK = 32, PTO = 37, MODE = 39, PC = 64, RUNNING = 67 };
-enum { STORES = 68, WALKS = 69, FREE = 70, PORTS = 72, RECORDS = 128 };
+enum { CORES = 0, PAGES = 1, REFUSALS = 2, LINES = 3, BLOCK = 32, PTO = 37, ASID = 38, MODE = 39, PC = 64 };
+enum { RUNNING = 67, STORES = 68, WALKS = 69, FREE = 70, PORTS = 72, RECORDS = 128 };
 
 /* a machine, and a copy of it to compare with */
 #define WORDS MIPS86_TABLE_WORDS(MIPS86_MOST_CORES)
@@ -558,6 +558,240 @@ static void test_apart(void) {
     SAYS(MIPS86_YES);
 }
 
+/* ---- translate */
+
+#define MOST MIPS86_MOST_ADDRESSES
+#define VA(first, second) ((uint32_t)(first) << 22 | (uint32_t)(second) << 12)
+
+static uint32_t addresses[MOST + 1];
+static uint32_t answers[MIPS86_ANSWER_WORDS * (MOST + 1) + 1];
+static uint32_t reads;
+
+static uint32_t translate(uint32_t core, size_t naddresses, size_t nanswers) {
+    memset(answers, 0xEE, sizeof answers);
+    reads = 77;
+    return mips86_translate(tables, words, memory, length, core, addresses, naddresses, answers, nanswers, &reads);
+}
+
+/* an address and the three words for it */
+struct led {
+    uint32_t address, answer[MIPS86_ANSWER_WORDS];
+};
+
+/* where a core's addresses lead, and how many entries that takes; neither tables nor memory are written */
+static void leads(int line, uint32_t core, uint32_t entries, const struct led *list, size_t n) {
+    for (size_t i = 0; i < n; i++) addresses[i] = list[i].address;
+    remember();
+    check_at(line, "translate", translate(core, n, 3 * n), MIPS86_DONE);
+    check_at(line, "reads", reads, entries);
+    for (size_t i = 0; i < 3 * n; i++) check_at(line, "a word of an answer", answers[i], list[i / 3].answer[i % 3]);
+    check_at(line, "the word after the answers", answers[3 * n], 0xEEEEEEEE);
+    check_at(line, "SAME()", SAME(), 1);
+}
+#define LED(...) (const struct led[]){__VA_ARGS__}
+#define LEADS(core, entries, ...) \
+    leads(__LINE__, core, entries, LED(__VA_ARGS__), sizeof(LED(__VA_ARGS__)) / sizeof(struct led))
+#define MAPPED(page, rights) {MIPS86_MAPPED, page, rights}
+#define ABSENT(level) {MIPS86_ABSENT, level, 0}
+#define BEYOND {MIPS86_BEYOND, 0, 0}
+
+/* Core 1 is not running and in system mode; page 1 is its first-level table, pages 1, 2 and 15 are second-level ones.
+ * Core 0 has the tables of page 15. No accessed bit is set. */
+static void make_tables(void) {
+    make(2, 16);
+    tables[BLOCK + PTO] = 15 << 12;
+    tables[BLOCK + 256 + PTO] = 1 << 12 | 0xABC;
+    entry(1, 0, 2, ALL, 1);
+    entry(1, 1, 2, 0, 1); /* the rights of a first-level entry say nothing */
+    entry(1, 2, 2, ALL, 0); /* absent */
+    entry(1, 3, 16, ALL, 1);
+    entry(1, 4, 0xFFFFF, ALL, 1);
+    entry(1, 5, 0xFFFFE, ALL, 1);
+    entry(1, 6, 1, USER, 1);
+    entry(1, 1023, 15, ALL, 1);
+    entry(2, 0, 4, USER, 1);
+    entry(2, 1, 5, WRITE, 1);
+    entry(2, 2, 6, ALL, 0); /* absent */
+    entry(2, 3, 16, EXECUTE, 1);
+    entry(2, 4, 0xFFFFF, ALL, 1);
+    entry(2, 1023, 0, 0, 1);
+    entry(15, 1023, 7, ALL, 1);
+}
+
+/* what make_tables has for core 1: every kind of answer, and all entries that it has */
+static void leads_all(int line, uint32_t core) {
+    static const struct led all[] = {
+        {VA(0, 0), MAPPED(4, USER)},
+        {VA(0, 1), MAPPED(5, WRITE)},
+        {VA(0, 2), ABSENT(1)},
+        {VA(0, 3), MAPPED(16, EXECUTE)},
+        {VA(0, 4), MAPPED(0xFFFFF, ALL)},
+        {VA(0, 1023), MAPPED(0, 0)},
+        {VA(1, 1), MAPPED(5, WRITE)},
+        {VA(2, 0), ABSENT(2)},
+        {VA(3, 0), BEYOND},
+        {VA(4, 0), BEYOND},
+        {VA(5, 1), BEYOND},
+        {VA(6, 0), MAPPED(2, ALL)},
+        {VA(1023, 1023), MAPPED(7, ALL)},
+    };
+    /* in page 1 entries 0 to 6 and 1023, of which 0 is met at both levels; six in page 2, one in page 15 */
+    leads(line, core, 8 + 6 + 1, all, sizeof all / sizeof *all);
+}
+
+static void test_translate(void) {
+    make_tables();
+    leads_all(__LINE__, 1);
+    LEADS(1, 2, {VA(0, 0), MAPPED(4, USER)});
+    LEADS(1, 2, {VA(1023, 1023), MAPPED(7, ALL)}); /* the last word of memory */
+
+    /* entries that addresses share: the first-level one, the second-level one, both */
+    LEADS(1, 3, {VA(0, 0), MAPPED(4, USER)}, {VA(0, 1), MAPPED(5, WRITE)});
+    LEADS(1, 3, {VA(0, 1), MAPPED(5, WRITE)}, {VA(1, 1), MAPPED(5, WRITE)});
+    LEADS(1, 4, {VA(0, 0), MAPPED(4, USER)}, {VA(1, 1), MAPPED(5, WRITE)});
+    LEADS(1, 2, {VA(0, 1), MAPPED(5, WRITE)}, {VA(0, 1), MAPPED(5, WRITE)}, {VA(0, 1), MAPPED(5, WRITE)});
+
+    /* page 1 as the second-level table: an entry is met at both levels, by one address or by two, in either order */
+    LEADS(1, 1, {VA(6, 6), MAPPED(1, USER)});
+    LEADS(1, 2, {VA(6, 0), MAPPED(2, ALL)});
+    LEADS(1, 3, {VA(6, 0), MAPPED(2, ALL)}, {VA(0, 0), MAPPED(4, USER)});
+    LEADS(1, 3, {VA(0, 0), MAPPED(4, USER)}, {VA(6, 0), MAPPED(2, ALL)});
+    LEADS(1, 2, {VA(6, 2), ABSENT(1)}, {VA(2, 6), ABSENT(2)});
+    LEADS(1, 2, {VA(6, 3), MAPPED(16, ALL)}, {VA(3, 6), BEYOND});
+
+    /* an absent entry is read too, whatever page it names */
+    LEADS(1, 1, {VA(2, 0), ABSENT(2)});
+    LEADS(1, 1, {VA(2, 0), ABSENT(2)}, {VA(2, 1), ABSENT(2)});
+    LEADS(1, 2, {VA(7, 0), ABSENT(2)}, {VA(8, 0), ABSENT(2)});
+    LEADS(1, 2, {VA(0, 2), ABSENT(1)});
+    LEADS(1, 3, {VA(0, 2), ABSENT(1)}, {VA(0, 77), ABSENT(1)});
+
+    /* a second-level table beyond memory or at ports: its entries are not read; a page may lie there */
+    LEADS(1, 1, {VA(3, 0), BEYOND}, {VA(3, 1023), BEYOND});
+    LEADS(1, 1, {VA(4, 0), BEYOND}, {VA(4, 31), BEYOND}, {VA(4, 32), BEYOND});
+    LEADS(1, 1, {VA(5, 0), BEYOND}, {VA(5, 1), BEYOND}, {VA(5, 2), BEYOND});
+    LEADS(1, 3, {VA(0, 3), MAPPED(16, EXECUTE)}, {VA(0, 4), MAPPED(0xFFFFF, ALL)});
+
+    /* a first-level table there, or in the last page of memory */
+    LEADS(0, 1, {VA(0, 0), ABSENT(2)});
+    LEADS(0, 2, {VA(1023, 3), ABSENT(1)});
+    static const uint32_t past[5] = {16, 17, 4096, 0xFFFFE, 0xFFFFF};
+    for (int k = 0; k < 5; k++) {
+        tables[BLOCK + PTO] = past[k] << 12;
+        LEADS(0, 0, {VA(0, 0), BEYOND}, {VA(1023, 1023), BEYOND}, {VA(0, 0), BEYOND});
+    }
+    tables[BLOCK + PTO] = 15 << 12;
+    entry(15, 5, 15, WRITE, 1);
+    LEADS(0, 2, {VA(5, 5), MAPPED(15, WRITE)}, {VA(5, 1023), MAPPED(7, ALL)});
+
+    /* the low 12 bits of an address */
+    LEADS(1, 2, {VA(0, 0) | 0xFFF, MAPPED(4, USER)}, {VA(0, 0), MAPPED(4, USER)}, {VA(0, 0) | 4, MAPPED(4, USER)});
+    LEADS(1, 2, {VA(1023, 1023) | 0xFFF, MAPPED(7, ALL)});
+    LEADS(1, 3, {VA(0, 0) | 0xFFF, MAPPED(4, USER)}, {VA(0, 1), MAPPED(5, WRITE)});
+}
+
+/* neither a held walk nor pending stores nor accessed bits nor the core's state change an answer */
+static void test_translate_alone(void) {
+    make_tables();
+    walk(1, 0, ALL, 12); /* a complete walk of virtual page 0x77, whose entry is absent */
+    store(1, 0x21DC);
+    LEADS(1, 2, {VA(0, 0x77), ABSENT(1)});
+    leads_all(__LINE__, 1);
+    for (uint32_t state = 0; state < 4; state++) {
+        tables[BLOCK + 256 + RUNNING] = state & 1;
+        tables[BLOCK + 256 + MODE] = state >> 1;
+        leads_all(__LINE__, 1);
+    }
+    tables[BLOCK + 256 + ASID] = 0xFFFFFFFF;
+    leads_all(__LINE__, 1);
+    tables[BLOCK + PTO] = 1 << 12; /* two cores with one table */
+    leads_all(__LINE__, 0);
+    for (size_t at = 0; at < length; at += 4) memory[at] = 0x80;
+    leads_all(__LINE__, 1);
+    for (size_t at = 0; at < length; at += 4) memory[at] = 0xFF;
+    leads_all(__LINE__, 1);
+}
+
+/* 0 and 64 addresses: of one region, of as many regions as addresses, and repeated */
+static void test_translate_most(void) {
+    static struct led list[MOST];
+    make(1, 16);
+    tables[BLOCK + PTO] = 8 << 12;
+    remember();
+    CHECK(translate(0, 0, 0), MIPS86_DONE);
+    CHECK(reads, 0);
+    CHECK(answers[0], 0xEEEEEEEE);
+    CHECK(SAME(), 1);
+    for (uint32_t i = 0; i < MOST; i++) {
+        entry(8, i, 9 + i % 4, 0, 1);
+        for (uint32_t table = 9; table < 13; table++) entry(table, i, 100 * table + i, i % 8, 1);
+    }
+    for (uint32_t i = 0; i < MOST; i++) list[i] = (struct led){VA(0, i), MAPPED(900 + i, i % 8)};
+    leads(__LINE__, 0, 1 + 64, list, MOST);
+    leads(__LINE__, 0, 1 + 63, list, MOST - 1);
+    for (uint32_t i = 0; i < MOST; i++) list[i] = (struct led){VA(i, i), MAPPED(100 * (9 + i % 4) + i, i % 8)};
+    leads(__LINE__, 0, 64 + 64, list, MOST);
+    for (uint32_t i = 0; i < MOST; i++) list[i] = (struct led){VA(i, 5), MAPPED(100 * (9 + i % 4) + 5, 5)};
+    leads(__LINE__, 0, 64 + 4, list, MOST);
+    for (uint32_t i = 0; i < MOST; i++) list[i] = (struct led){VA(3, 6) | i, MAPPED(1206, 6)};
+    leads(__LINE__, 0, 2, list, MOST);
+    for (uint32_t i = 0; i < MOST; i++) list[i] = (struct led){VA(64 + i, i), ABSENT(2)};
+    leads(__LINE__, 0, 64, list, MOST);
+}
+
+/* a refusal leaves the answers and says that nothing was read */
+static void translate_refuses(int line, uint32_t core, size_t naddresses, size_t nanswers, uint32_t number) {
+    remember();
+    check_at(line, "translate", translate(core, naddresses, nanswers), MIPS86_REFUSED + number);
+    check_at(line, "reads", reads, 0);
+    for (size_t i = 0; i < sizeof answers / sizeof *answers; i++) {
+        check_at(line, "a word of no answer", answers[i], 0xEEEEEEEE);
+    }
+    check_at(line, "SAME()", SAME(), 1);
+}
+#define TRANSLATE_REFUSES(core, naddresses, nanswers, number) \
+    translate_refuses(__LINE__, core, naddresses, nanswers, number)
+
+static void test_translate_refusals(void) {
+    make_tables();
+    memset(addresses, 0, sizeof addresses);
+    TRANSLATE_REFUSES(1, 1, 2, 16);
+    TRANSLATE_REFUSES(1, 1, 4, 16);
+    TRANSLATE_REFUSES(1, 1, 0, 16);
+    TRANSLATE_REFUSES(1, 0, 1, 16);
+    TRANSLATE_REFUSES(1, 0, 3, 16);
+    TRANSLATE_REFUSES(1, 64, 191, 16);
+    TRANSLATE_REFUSES(1, 64, 195, 16);
+    TRANSLATE_REFUSES(1, 64, 64, 16);
+    TRANSLATE_REFUSES(1, 65, 195, 15);
+    TRANSLATE_REFUSES(1, 65, 192, 15);
+    TRANSLATE_REFUSES(1, 65, 0, 15);
+    TRANSLATE_REFUSES(2, 1, 3, 14);
+    TRANSLATE_REFUSES(2, 0, 0, 14);
+    TRANSLATE_REFUSES(2, 1, 2, 14);
+    TRANSLATE_REFUSES(3, 65, 195, 14);
+    TRANSLATE_REFUSES(4, 65, 192, 14);
+    TRANSLATE_REFUSES(0xFFFFFFFF, 1, 3, 14);
+    tables[BLOCK + RUNNING] = 2; /* of the core that is not asked for */
+    TRANSLATE_REFUSES(1, 1, 3, 4);
+    TRANSLATE_REFUSES(1, 0, 0, 4);
+    TRANSLATE_REFUSES(1, 1, 2, 4);
+    TRANSLATE_REFUSES(1, 65, 195, 4);
+    TRANSLATE_REFUSES(2, 1, 3, 4);
+    TRANSLATE_REFUSES(2, 65, 192, 4);
+    tables[BLOCK + RUNNING] = 1;
+    LEADS(1, 2, {VA(0, 0), MAPPED(4, USER)});
+    words--;
+    TRANSLATE_REFUSES(1, 1, 3, 4);
+    words++;
+    length -= MIPS86_PAGE_BYTES;
+    TRANSLATE_REFUSES(1, 1, 3, 4);
+    length--;
+    TRANSLATE_REFUSES(1, 1, 3, 4);
+    words = length = 0;
+    TRANSLATE_REFUSES(0, 0, 0, 4);
+}
+
 int main(void) {
     test_make();
     test_example();
@@ -569,6 +803,10 @@ int main(void) {
     test_reach();
     test_apart();
     test_why();
+    test_translate();
+    test_translate_alone();
+    test_translate_most();
+    test_translate_refusals();
     printf("C test: %u checks, %u failed\n", checks, failures);
     return failures != 0;
 }

@@ -1,5 +1,6 @@
 //! The MIPS-86 machine with one to four cores, for Rust: make a machine, take one step, run a schedule; which pages a
-//! group of cores reaches, whether the group is kept apart from the others, and why it is not.
+//! group of cores reaches, whether the group is kept apart from the others, and why it is not; where virtual addresses
+//! of a core lead.
 //!
 //! [`Machine`] owns a machine's tables and memory; the functions are for a caller who lends them. All of the machine is
 //! in the two: nothing is kept between calls. Every call is safe with any words and bytes, since the functions ask
@@ -7,9 +8,11 @@
 //! (crates/mips86); `../../include/mips86.h` has the layout, the kinds of step and the refusals in short.
 
 mod machine;
+mod translate;
 mod why;
 
 pub use machine::{LoadError, Machine, Reach};
+pub use translate::{translate, translate_into, Translated, Translation};
 pub use why::{reasons, why, Reason, Root, Side, Way};
 
 /// Bytes of a page of memory.
@@ -18,6 +21,10 @@ pub const PAGE_BYTES: usize = 4096;
 pub const STEP_WORDS: usize = 6;
 /// The most steps of a schedule.
 pub const MOST_STEPS: usize = 1024;
+/// The most addresses of one translation.
+pub const MOST_ADDRESSES: usize = 64;
+/// Words of the answer for an address.
+pub const ANSWER_WORDS: usize = 3;
 
 /// In a map's byte: the page is named by a present entry of a second-level table, by a complete walk or by a pending
 /// store.
@@ -102,6 +109,18 @@ mod c {
             after: u32,
             words: *mut u32,
             nwords: usize,
+        ) -> u32;
+        pub fn mips86_translate(
+            tables: *const u32,
+            ntables: usize,
+            memory: *const u8,
+            nmemory: usize,
+            core: u32,
+            addresses: *const u32,
+            naddresses: usize,
+            answers: *mut u32,
+            nanswers: usize,
+            reads: *mut u32,
         ) -> u32;
     }
 }

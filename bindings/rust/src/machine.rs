@@ -1,6 +1,7 @@
 //! A machine that owns its tables and its memory.
 
-use crate::{apart, make, reach, reasons, run, step, table_words, why, Answer, Ran, Reason, PAGE_BYTES, STEP_WORDS};
+use crate::{apart, make, reach, reasons, run, step, table_words, translate, why};
+use crate::{Answer, Ran, Reason, Translated, PAGE_BYTES, STEP_WORDS};
 use std::fmt;
 
 /// A machine: its table words and its memory bytes, which are all of it.
@@ -142,6 +143,28 @@ impl Machine {
     /// ```
     pub fn reasons(&self, group: u32) -> Result<Vec<Reason>, u32> {
         reasons(&self.tables, &self.memory, group)
+    }
+
+    /// Where up to 64 virtual addresses of a core lead, by the page tables in memory alone, and how many table entries
+    /// that takes. The error is the number of the refusal: 4 where the tables are not sound, 14 where the core is not
+    /// there, 15 where there are more than 64 addresses.
+    ///
+    /// ```
+    /// use mips86::{Machine, Translation};
+    ///
+    /// let entry = |page: u32, rights: u32| (page << 12 | 1 << 11 | rights << 8).to_le_bytes();
+    /// let mut m = Machine::make(1, 4)?; // pto names page 0
+    /// m.memory[..4].copy_from_slice(&entry(1, 0b111)); // entry 0 there names page 1
+    /// m.memory[4096..4100].copy_from_slice(&entry(3, 0b011)); // and entry 0 of that one page 3
+    /// let t = m.translate(0, &[0x123, 0x1000, 0x40_0000])?;
+    /// let mapped = Translation::Mapped { page: 3, rights: 0b011 };
+    /// assert_eq!(t.translations, [mapped, Translation::Absent { level: 1 }, Translation::Absent { level: 2 }]);
+    /// assert_eq!(t.reads, 4); // two in each table
+    /// assert_eq!(m.translate(1, &[]), Err(14)); // there is no core 1
+    /// # Ok::<(), u32>(())
+    /// ```
+    pub fn translate(&self, core: u32, addresses: &[u32]) -> Result<Translated, u32> {
+        translate(&self.tables, &self.memory, core, addresses)
     }
 
     /// The machine as bytes: its table words, low byte first, then its memory.
