@@ -28,8 +28,8 @@ impl Random {
     }
 }
 
-/// The indices of most entries. With 37 between them, those of neighbouring pages are kept in the same slot.
-const INDICES: [u32; 10] = [0, 1, 2, 31, 32, 37, 74, 111, 1022, 1023];
+/// The indices of most entries. With 633 or 242 between them, those of pages one or two apart are kept in the same slot.
+const INDICES: [u32; 10] = [0, 1, 2, 242, 243, 391, 633, 634, 1022, 1023];
 
 /// A page of a machine with so many, its last one, or one beyond: the next, a far one, a port's.
 fn random_page(r: &mut Random, pages: usize) -> u32 {
@@ -245,7 +245,7 @@ fn translations_by_plain_walks() {
 fn the_most_entries() {
     let pages = 4096;
     let far = |k: u32| 1 + 64 * k;
-    let same_slot = |k: u32| (37 * 4096 - 37 * far(k)) % 1024;
+    let same_slot = |k: u32| (633 * 4096 - 633 * far(k)) % 1024;
     // of address k: the second-level table and its index there
     type Layout<'a> = &'a dyn Fn(u32) -> (u32, u32);
     let layouts: [Layout; 4] = [&|k| (1 + k, 0), &|k| (1, k), &|k| (far(k), 1023 - k), &|k| (far(k), same_slot(k))];

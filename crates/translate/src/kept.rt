@@ -16,7 +16,7 @@ pub enum Place {
 fn slot(at: u32) -> usize
     ensures { λ r. ⌜ r ≡ x.slotOf at ⌝ }
 {
-    ((at / 4 + 37 * (at / 4096)) % 1024) as usize
+    ((at / 4 + 633 * (at / 4096)) % 1024) as usize
 }
 
 // Looks through the first n addresses.
@@ -75,6 +75,7 @@ pub(crate) fn entry(
     ensures { λ r. ⌜ x.Asked (now (m .entry)) (at ∷ []) n (now (keys .entry)) (r .kept) (now (keys .exit)) (now (words .exit)) (now (slots .exit)) ⌝ }
 {
     let a = at as usize;
+    let more = n + 1;
     if m.len() < a + 4 {
         return Got {
             entry: Entry::Missing,
@@ -83,8 +84,9 @@ pub(crate) fn entry(
     }
     let place = find(at, n, keys, slots);
     if let Place::At(i) = place {
+        let held = words[i];
         return Got {
-            entry: Entry::Word(words[i]),
+            entry: Entry::Word(held),
             kept: n,
         };
     }
@@ -92,9 +94,9 @@ pub(crate) fn entry(
     keys[n] = at;
     words[n] = e;
     let s = slot(at);
-    slots[s] = (n + 1) as u8;
+    slots[s] = more as u8;
     Got {
         entry: Entry::Word(e),
-        kept: n + 1,
+        kept: more,
     }
 }

@@ -22,9 +22,9 @@ unfoldable pub askAll : List ℕ → List ℕ → List ℕ → List ℕ
 askAll m k [] = k
 askAll m k (a ∷ l) = askAll m (ask m k a) l
 
--- the slot of an address: its place in the table, moved by the page, so that the same place in other tables has another slot
+-- the slot of an address: its place in the table, moved by the page, so that the entries of neighbouring tables have slots far apart
 abbrev pub slotOf : ℕ → ℕ
-slotOf a = (a / 4 + 37 * (a / 4096)) % 1024
+slotOf a = (a / 4 + 633 * (a / 4096)) % 1024
 
 -- each of the first n addresses has a slot that is in use
 abbrev pub Slotted : ℕ → List ℕ → List ℕ → Type 0

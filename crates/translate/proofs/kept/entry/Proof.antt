@@ -1,13 +1,15 @@
 -- `translate::kept::entry` meets its contract: beyond memory, kept before, or read and kept now.
 -- Assumes nothing.
-use mathlib.Core.Path.{refl, sym, ap, _∙_}
-use Prim.Native.Nat.{ℕ}
+use mathlib.Core.Path.{refl}
 use native.Mathlib.Omega.{arith}
 use Rattle.tlb.proofs.Entries.{read-in, read-out}
 use Rattle.translate.proofs.Keeping.{found, asked-beyond, asked-again, again-word, asked-new-at}
 use borrow.Author.Needs.{needs}
 use Rattle.translate.proofs.kept.entry.Statement.{statement}
 use Rattle.translate.proofs.kept.entry.Tie as tie
+
+add-more : tie.Need-add-more
+add-more c = search needs
 
 add-if1 : tie.Need-add-if1
 add-if1 c = search needs
@@ -21,11 +23,11 @@ find-requires c κs = search needs
 enum-known-place : tie.Need-enum-known-place
 enum-known-place c = search needs
 
-mul-t20 : tie.Need-mul-t20
-mul-t20 c = let e = c .before .before .before .before .before .before .before .before .before .before .before in let f = found (e .args .at) (e .args .n) _ _ _ (c .before .place .given .1) (c .before .before .before .find .ensures) in omega (arith, f .0, e .pre .1)
+mul-held : tie.Need-mul-held
+mul-held c = let e = c .before .before .before .before .before .before .before .before .before .before .before in let f = found (e .args .at) (e .args .n) _ _ _ (c .before .place .given .1) (c .before .before .before .find .ensures) in omega (arith, f .0, e .pre .1)
 
-slice-read-t22 : tie.Need-slice-read-t22
-slice-read-t22 c = let e = c .before .before .before .before .before .before .before .before .before .before .before .before in let f = found (e .args .at) (e .args .n) _ _ _ (c .before .before .place .given .1) (c .before .before .before .before .find .ensures) in omega (arith, f .0, e .pre .1, e .pre .0 .words-long)
+slice-read-held : tie.Need-slice-read-held
+slice-read-held c = let e = c .before .before .before .before .before .before .before .before .before .before .before .before in let f = found (e .args .at) (e .args .n) _ _ _ (c .before .before .place .given .1) (c .before .before .before .before .find .ensures) in omega (arith, f .0, e .pre .1, e .pre .0 .words-long)
 
 same-length : tie.Need-same-length
 same-length c = search needs
@@ -57,17 +59,11 @@ slice-write-words c = search needs
 slot-requires : tie.Need-slot-requires
 slot-requires c κs = search needs
 
-add-slots : tie.Need-add-slots
-add-slots c = search needs
-
 cast-slots : tie.Need-cast-slots
 cast-slots c = search needs
 
 slice-write-slots : tie.Need-slice-write-slots
 slice-write-slots c = search needs
-
-add-t13 : tie.Need-add-t13
-add-t13 c = search needs
 
 same-length-3 : tie.Need-same-length-3
 same-length-3 c = search needs
@@ -85,12 +81,13 @@ pub entry-spec : {M : Type 1} → statement M
 entry-spec =
     tie.close
     (tie.spec
+    add-more
     add-if1
     returns
     find-requires
     enum-known-place
-    mul-t20
-    slice-read-t22
+    mul-held
+    slice-read-held
     same-length
     same-length-2
     returns-2
@@ -101,10 +98,8 @@ entry-spec =
     mul-words
     slice-write-words
     slot-requires
-    add-slots
     cast-slots
     slice-write-slots
-    add-t13
     same-length-3
     same-length-4
     same-length-5
