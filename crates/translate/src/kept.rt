@@ -85,9 +85,10 @@ pub(crate) fn entry(
     let place = find(at, n, keys, slots);
     if let Place::At(i) = place {
         let held = words[i];
+        let kept = n;
         return Got {
             entry: Entry::Word(held),
-            kept: n,
+            kept,
         };
     }
     let e = word::read_word(m, a);
