@@ -184,7 +184,7 @@ uint32_t mips86_why(const uint32_t *tables, size_t ntables, const uint8_t *memor
  *    MIPS86_ABSENT, the level of the table whose entry is not present (2 first, 1 second), 0;
  *    MIPS86_BEYOND, 0, 0: an entry is beyond memory, as one at a port is.
  * Answers 0, or a refusal (4, 14, 15, 16), which leaves the answers. Writes to *reads how many different table entries,
- * by address, all of the addresses need, those beyond memory left out; each of them is read once (0 with a refusal).
+ * by address, all of the addresses need, those beyond memory left out (0 with a refusal); each of them is read once.
  * Nothing of the machine is written. Uses some 2 KB of stack.
  */
 #define MIPS86_MOST_ADDRESSES 64

@@ -33,9 +33,9 @@ fn translation(answer: &[u32]) -> Translation {
 /// Where up to 64 virtual addresses of a core lead: fills three words an address, `0, page, rights`, `1, level, 0` or
 /// `2, 0, 0` for the three kinds of [`Translation`]. Each address is followed by a walk of its own from the page in
 /// pto; its low 12 bits say nothing. Neither the walks that the core holds nor accessed bits are looked at, nor whether
-/// it runs, nor its mode. Ok is the number of different table entries that all of them need, each of which is read
-/// once. The error is the number of the refusal, 4, 14, 15 or 16, which leaves the answers. It allocates nothing and
-/// uses some 2 KB of stack.
+/// it runs, nor its mode. Ok is the number of different table entries that all of them need, those beyond memory left
+/// out; each of them is read once. The error is the number of the refusal, 4, 14, 15 or 16, which leaves the answers.
+/// It allocates nothing and uses some 2 KB of stack.
 ///
 /// ```
 /// use mips86::{make, table_words, translate_into, PAGE_BYTES};

@@ -25,6 +25,7 @@ fn machine(t: &mut [u32], m: &mut [u8])
     word::write_word(m, 0x2004, 0x1234_5A00);
 }
 
+// What translate promises is not needed here: a row shows what came out.
 fn answer_of(t: &[u32], m: &[u8], core: u32, addresses: &[u32], answers: &mut [u32]) -> Translated {
     translate::translate(t, m, core, addresses, answers)
 }
@@ -127,7 +128,7 @@ fn counts(t: &[u32], m: &[u8]) {
     many(t, m, b"65 addresses: ", 65, 0x1000);
 }
 
-// The refusals in their order: each row has also the grounds of those that come after it. None writes a word.
+// The refusals, the last in order first: each row has also the grounds of the rows before it. None writes a word.
 fn refusals(t: &mut [u32], m: &[u8]) {
     let addresses = [0u32; 65];
     let mut answers = [9u32; 2];

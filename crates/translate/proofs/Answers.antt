@@ -1,11 +1,10 @@
 -- What the operation answers, refusal by refusal.
 -- Assumes nothing.
-use mathlib.Core.Path.{_≡_, refl, sym, ap, ap₂, _∙_}
+use mathlib.Core.Path.{_≡_, refl, ap, _∙_}
 use mathlib.Core.Logic.{_≢_}
-use mathlib.Core.Bool.{Bool, true, false}
+use mathlib.Core.Bool.{true, false}
 use mathlib.Core.List.{List}
 use Prim.Native.Nat.{ℕ, _*_, _≤_, _<_}
-use lib.Dec.{eqb, ltb, leb}
 use lib.ListN.{length}
 use borrow.Author.Tests.{eq-eqb, ne-eqb, lt-ltb, le-ltb, le-leb, lt-leb}
 use Rattle.layout.specs.Blocks.{block}
@@ -17,30 +16,30 @@ use Rattle.translate.specs.Translate.{answersFor, readsFor, translateOn}
 
 module _ (k : ℕ) (l t m r : List ℕ) where
   -- an answer, and the words that are left
-  abbrev pub Answers : Translated → List ℕ → Type 0
-  Answers a o = (a ≡ translateOn k l t m r .answer) × (o ≡ translateOn k l t m r .words)
+  abbrev pub Gives : Translated → List ℕ → Type 0
+  Gives a o = (a ≡ translateOn k l t m r .answer) × (o ≡ translateOn k l t m r .words)
 
-  pub unsound : sound t (length m) ≡ false → Answers (Refused 4) r
+  pub unsound : sound t (length m) ≡ false → Gives (Refused 4) r
   unfolding translateOn
   unsound e = rw e (refl, refl)
 
   module _ (e : sound t (length m) ≡ true) where
-    pub no-core : coresOf t ≤ k → Answers (Refused 14) r
+    pub no-core : coresOf t ≤ k → Gives (Refused 14) r
     unfolding translateOn
     no-core h = rw (e, le-ltb k (coresOf t) h) (refl, refl)
 
     module _ (h : k < coresOf t) where
-      pub too-many : 64 < length l → Answers (Refused 15) r
+      pub too-many : 64 < length l → Gives (Refused 15) r
       unfolding translateOn
       too-many n = rw (e, lt-ltb k (coresOf t) h, lt-leb (length l) 64 n) (refl, refl)
 
       module _ (n : length l ≤ 64) where
-        pub other-words : length r ≢ 3 * length l → Answers (Refused 16) r
+        pub other-words : length r ≢ 3 * length l → Gives (Refused 16) r
         unfolding translateOn
         other-words d = rw (e, lt-ltb k (coresOf t) h, le-leb (length l) 64 n, ne-eqb (length r) (3 * length l) d) (refl, refl)
 
         -- with the block as the code has it
-        pub done : {b o : List ℕ} {c : ℕ} → length r ≡ 3 * length l → b ≡ block t k → c ≡ readsFor b m l → o ≡ answersFor b m l → Answers (Done c) o
+        pub done : {b o : List ℕ} {c : ℕ} → length r ≡ 3 * length l → b ≡ block t k → c ≡ readsFor b m l → o ≡ answersFor b m l → Gives (Done c) o
         unfolding translateOn
         done q p f g =
             rw (e, lt-ltb k (coresOf t) h, le-leb (length l) 64 n, eq-eqb (length r) (3 * length l) q)

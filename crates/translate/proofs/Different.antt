@@ -1,12 +1,12 @@
 -- How many different numbers a list has: as many as are kept when each is asked for in turn.
 -- Assumes nothing.
-use mathlib.Core.Path.{_≡_, refl, sym, ap, ap₂, _∙_}
+use mathlib.Core.Path.{_≡_, refl, sym, ap, _∙_}
 use mathlib.Core.Bool.{Bool, true, false, _&&_, _||_, not, true≢false, false≢true}
 use mathlib.Core.List.{List, [], _∷_, _++_}
-use Prim.Native.Nat.{ℕ, zero, suc, _+_, _≤_, _<_}
+use Prim.Native.Nat.{ℕ, suc, _+_, _≤_}
 use native.Mathlib.Omega.{arith}
 use lib.Dec.{eqb}
-use lib.ListN.{length, take}
+use lib.ListN.{length, take, length-append}
 use lib.Seq.{length-take-le}
 use borrow.Author.Tests.{eq-eqb, ne-eqb, eqb-true, eqb-false}
 use Rattle.word.specs.Word.{if_then_else_, flag}
@@ -14,7 +14,7 @@ use Rattle.word.proofs.Truth.{and-true}
 use Rattle.reach.specs.Lists.{has, select}
 use Rattle.reach.proofs.Lists.{has-append, select-same}
 use Rattle.translate.specs.Translate.{different, isThere}
-use Rattle.translate.specs.inner.Kept.{ask, askAll, Kept, Asked}
+use Rattle.translate.specs.inner.Cache.{cache, cacheAll, Asked}
 
 -- ---- one number less
 
@@ -66,7 +66,7 @@ module _ (p : ℕ → Bool) (a : ℕ) where
           rw (ne-eqb a x (λ q. d (sym q))) (there (has a P) (has x Q) (has x P) (f d) h)
       go false t e h f = h
 
-  pub first-counted : (l : List ℕ) → different (a ∷ select p l) ≡ suc (different (select without l))
+  first-counted : (l : List ℕ) → different (a ∷ select p l) ≡ suc (different (select without l))
   unfolding different
   first-counted l = once (has a (select p l)) (different (select p l)) (different (select without l)) (one-less l)
 
@@ -87,45 +87,41 @@ module _ (m : List ℕ) where
       go true false false = refl
       go false t u = refl
 
-  length-one : (k : List ℕ) (a : ℕ) → length (k ++ (a ∷ [])) ≡ suc (length k)
-  length-one [] a = refl
-  length-one (x ∷ k) a = ap suc (length-one k a)
-
-  pub length-asked : (k l : List ℕ) → length (askAll m k l) ≡ length k + different (select (fresh k) l)
-  unfolding askAll ask different select
+  pub length-asked : (k l : List ℕ) → length (cacheAll m k l) ≡ length k + different (select (fresh k) l)
+  unfolding cacheAll cache different select
   length-asked k [] = omega arith
   length-asked k (a ∷ l) = go (fresh k a) (length-asked k l) (length-asked (k ++ (a ∷ [])) l)
     where
-      go : (b : Bool) → length (askAll m k l) ≡ length k + different (select (fresh k) l)
-          → length (askAll m (k ++ (a ∷ [])) l) ≡ length (k ++ (a ∷ [])) + different (select (fresh (k ++ (a ∷ []))) l)
-          → length (askAll m (if b then k ++ (a ∷ []) else k) l) ≡ length k + different (if b then a ∷ select (fresh k) l else select (fresh k) l)
+      go : (b : Bool) → length (cacheAll m k l) ≡ length k + different (select (fresh k) l)
+          → length (cacheAll m (k ++ (a ∷ [])) l) ≡ length (k ++ (a ∷ [])) + different (select (fresh (k ++ (a ∷ []))) l)
+          → length (cacheAll m (if b then k ++ (a ∷ []) else k) l) ≡ length k + different (if b then a ∷ select (fresh k) l else select (fresh k) l)
       go true e f =
           let g = first-counted (fresh k) a l ∙ ap (λ (z : List ℕ). suc (different z)) (select-same _ _ l (λ x i. fresh-more k a x)) in
-          omega (arith, f, length-one k a, g)
+          omega (arith, f, length-append k (a ∷ []), g)
       go false e f = e
 
   -- from nothing on
-  pub asked-reads : (l : List ℕ) → length (askAll m [] l) ≡ different (select (isThere m) l)
+  pub asked-reads : (l : List ℕ) → length (cacheAll m [] l) ≡ different (select (isThere m) l)
   unfolding has
   asked-reads l =
       let same = ap different (select-same (fresh []) (isThere m) l (λ x i. and-true (isThere m x))) in omega (arith, length-asked [] l, same)
 
   -- no more are kept than were asked for
-  pub asked-few : (k l : List ℕ) → length (askAll m k l) ≤ length k + length l
-  unfolding askAll ask
+  pub asked-few : (k l : List ℕ) → length (cacheAll m k l) ≤ length k + length l
+  unfolding cacheAll cache
   asked-few k [] = omega arith
   asked-few k (a ∷ l) = go (fresh k a) (asked-few k l) (asked-few (k ++ (a ∷ [])) l)
     where
-      go : (b : Bool) → length (askAll m k l) ≤ length k + length l → length (askAll m (k ++ (a ∷ [])) l) ≤ length (k ++ (a ∷ [])) + length l
-          → length (askAll m (if b then k ++ (a ∷ []) else k) l) ≤ length k + suc (length l)
-      go true e f = omega (arith, f, length-one k a)
+      go : (b : Bool) → length (cacheAll m k l) ≤ length k + length l → length (cacheAll m (k ++ (a ∷ [])) l) ≤ length (k ++ (a ∷ [])) + length l
+          → length (cacheAll m (if b then k ++ (a ∷ []) else k) l) ≤ length k + suc (length l)
+      go true e f = omega (arith, f, length-append k (a ∷ []))
       go false e f = omega (arith, e)
 
   -- one list after another
-  pub asked-append : (k l r : List ℕ) → askAll m k (l ++ r) ≡ askAll m (askAll m k l) r
-  unfolding askAll
+  pub asked-append : (k l r : List ℕ) → cacheAll m k (l ++ r) ≡ cacheAll m (cacheAll m k l) r
+  unfolding cacheAll
   asked-append k [] r = refl
-  asked-append k (a ∷ l) r = asked-append (ask m k a) l r
+  asked-append k (a ∷ l) r = asked-append (cache m k a) l r
 
 -- ---- counts
 

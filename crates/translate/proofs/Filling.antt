@@ -1,9 +1,8 @@
 -- The answers and the entries kept, address by address.
 -- Assumes nothing.
-use mathlib.Core.Path.{_≡_, refl, sym, ap, ap₂, subst, _∙_}
-use mathlib.Core.Bool.{Bool, true, false}
+use mathlib.Core.Path.{_≡_, refl, sym, ap, ap₂, _∙_}
 use mathlib.Core.List.{List, [], _∷_, _++_, flatMap}
-use Prim.Native.Nat.{ℕ, zero, suc, _+_, _*_, _^_, _≤_, _<_}
+use Prim.Native.Nat.{ℕ, suc, _+_, _*_, _^_, _≤_, _<_}
 use native.Mathlib.Omega.{arith}
 use lib.ListN.{length, getD, take, drop, length-append}
 use lib.Seq.{take-suc, take-all, take-at, sets, sets-eq, length-sets, length-take-le}
@@ -16,7 +15,7 @@ use Rattle.reach.proofs.Lists.{flatMap-append, flatMap-one}
 use Rattle.translate.specs.declared.Translation.{Translation}
 use Rattle.translate.specs.declared.Translation.the-variants.{Mapped, Absent, Beyond}
 use Rattle.translate.specs.Translate.{walkFor, leads, needs, translationWords, answersFor, needsFor, readsFor}
-use Rattle.translate.specs.inner.Kept.{askAll, Kept, Asked}
+use Rattle.translate.specs.inner.Cache.{cacheAll, Cached, Asked}
 use Rattle.translate.proofs.Different.{asked-append, grows, counted}
 use Rattle.translate.proofs.Leading.{needs-few}
 
@@ -59,15 +58,14 @@ module _ (b m l : List ℕ) where
 
   -- the answers are written, and the entries asked for, up to address i
   pub record Filling (keys₀ : List ℕ) (i n : ℕ) (r keys words slots : List ℕ) : Type 0 where
-    pub within : i ≤ length l
     pub long : length r ≡ 3 * length l
     pub answered : take (3 * i) r ≡ answersFor b m (take i l)
     pub asked : Asked m (needsFor b m (take i l)) 0 keys₀ n keys words slots
     pub few : n ≤ 2 * i
 
-  pub fill-start : {keys words slots r : List ℕ} → length r ≡ 3 * length l → Kept m 0 keys words slots → Filling keys 0 0 r keys words slots
-  unfolding answersFor needsFor askAll flatMap
-  fill-start e K = record { within = omega arith; long = e; answered = refl; asked = record { kept = K; addresses = refl }; few = omega arith }
+  pub fill-start : {keys words slots r : List ℕ} → length r ≡ 3 * length l → Cached m 0 keys words slots → Filling keys 0 0 r keys words slots
+  unfolding answersFor needsFor cacheAll flatMap
+  fill-start e K = record { long = e; answered = refl; asked = record { kept = K; addresses = refl }; few = omega arith }
 
   module _ {keys₀ : List ℕ} {i n : ℕ} {r keys words slots : List ℕ} (F : Filling keys₀ i n r keys words slots) (h : i < length l) where
     -- the walk, and the words of its answer
@@ -90,13 +88,12 @@ module _ (b m l : List ℕ) where
     fill-next {w} {to} {n′} {keys′} {words′} {slots′} {r′} e f A g =
         let q : r′ ≡ sets r (3 * i) T = g ∙ ap (λ (t : Translation). sets r (3 * i) (translationWords t)) (f ∙ ap (leads 2 m) e) in
         record {
-          within = omega arith;
           long = ap (length {A = ℕ}) q ∙ length-sets r (3 * i) T ∙ F .long;
           answered = ap (take (3 * (i + 1))) q ∙ put-at ∙ ap (λ (z : List ℕ). z ++ T) (F .answered) ∙ sym (answers-next i h);
           asked = record {
             kept = A .kept;
-            addresses = A .addresses ∙ ap₂ (λ (k : List ℕ) (u : Walk). askAll m k (needs 2 m u)) (F .asked .addresses) e
-                ∙ sym (asked-append m (take 0 keys₀) (needsFor b m (take i l)) (needs 2 m v)) ∙ ap (askAll m (take 0 keys₀)) (sym (needs-next i h));
+            addresses = A .addresses ∙ ap₂ (λ (k : List ℕ) (u : Walk). cacheAll m k (needs 2 m u)) (F .asked .addresses) e
+                ∙ sym (asked-append m (take 0 keys₀) (needsFor b m (take i l)) (needs 2 m v)) ∙ ap (cacheAll m (take 0 keys₀)) (sym (needs-next i h));
           };
           few = omega (arith, F .few, needs-few 2 m w, grows A (omega (arith, F .asked .kept .few, F .asked .kept .keys-long)));
         }

@@ -3,9 +3,8 @@
 use mathlib.Core.Path.{_≡_, refl, sym, ap, subst, _∙_}
 use mathlib.Core.Bool.{Bool, true, false}
 use mathlib.Core.List.{List, [], _∷_}
-use Prim.Native.Nat.{ℕ, zero, suc, _+_, _-_, _≤_, _<_}
+use Prim.Native.Nat.{ℕ, zero, suc, _+_, _≤_}
 use native.Mathlib.Omega.{arith}
-use lib.Dec.{eqb}
 use lib.ListN.{length, take}
 use Rattle.word.specs.Word.{if_then_else_}
 use Rattle.records.specs.declared.Walk.{Walk}
@@ -13,10 +12,9 @@ use Rattle.tlb.specs.declared.Entry.{Entry}
 use Rattle.tlb.specs.declared.Entry.the-variants.{Word, Missing}
 use Rattle.tlb.specs.Walks.{walkLevel, walkR, walkBa, ptea, entryAt, pte, pteP, wext}
 use Rattle.tlb.proofs.Fields.{wext-fields}
-use Rattle.translate.specs.declared.Translation.{Translation}
 use Rattle.translate.specs.declared.Translation.the-variants.{Mapped, Absent, Beyond}
 use Rattle.translate.specs.Translate.{leadsBy, leads, needsBy, needs}
-use Rattle.translate.specs.inner.Kept.{ask, askAll, Kept, Asked}
+use Rattle.translate.specs.inner.Cache.{cacheAll, Cached, Asked}
 use Rattle.translate.proofs.Different.{grows}
 
 -- ---- one level
@@ -73,20 +71,20 @@ module _ (m : List ℕ) (w : Walk) (a : ℕ) (q : a ≡ ptea w) where
 -- ---- the levels of a walk: what is left of it gives the whole
 
 pub record Leading (m : List ℕ) (start : Walk) (n : ℕ) (keys : List ℕ) (w : Walk) (left c : ℕ) (keys′ words′ slots′ : List ℕ) : Type 0 where
-  pub kept : Kept m c keys′ words′ slots′
+  pub kept : Cached m c keys′ words′ slots′
   pub level : walkLevel w ≡ left
   pub room : c + left ≤ n + 2
   pub whole : leads left m w ≡ leads 2 m start
-  pub addresses : askAll m (take c keys′) (needs left m w) ≡ askAll m (take n keys) (needs 2 m start)
+  pub addresses : cacheAll m (take c keys′) (needs left m w) ≡ cacheAll m (take n keys) (needs 2 m start)
 
 module _ {m : List ℕ} {start : Walk} {n : ℕ} {keys : List ℕ} where
-  pub lead-start : {words slots : List ℕ} → Kept m n keys words slots → walkLevel start ≡ 2 → Leading m start n keys start 2 n keys words slots
+  pub lead-start : {words slots : List ℕ} → Cached m n keys words slots → walkLevel start ≡ 2 → Leading m start n keys start 2 n keys words slots
   lead-start K e = record { kept = K; level = e; room = omega arith; whole = refl; addresses = refl }
 
   module _ {w : Walk} {c : ℕ} {keys₁ words₁ slots₁ : List ℕ} where
     pub lead-end : (left : ℕ) → left ≡ 0 → Leading m start n keys w left c keys₁ words₁ slots₁ → Asked m (needs 2 m start) n keys c keys₁ words₁ slots₁
-    unfolding needs askAll
-    lead-end left z L = record { kept = L .kept; addresses = ap (λ (j : ℕ). askAll m (take c keys₁) (needs j m w)) (sym z) ∙ L .addresses }
+    unfolding needs cacheAll
+    lead-end left z L = record { kept = L .kept; addresses = ap (λ (j : ℕ). cacheAll m (take c keys₁) (needs j m w)) (sym z) ∙ L .addresses }
 
     pub lead-mapped : (left : ℕ) → left ≡ 0 → Leading m start n keys w left c keys₁ words₁ slots₁ → Mapped (walkBa w) (walkR w) ≡ leads 2 m start
     unfolding leads
@@ -97,8 +95,8 @@ module _ {m : List ℕ} {start : Walk} {n : ℕ} {keys : List ℕ} where
       whole-here : leads (suc l) m w ≡ leads 2 m start
       whole-here = ap (λ (j : ℕ). leads j m w) (sym s) ∙ L .whole
 
-      asked-here : askAll m (take c keys₁) (needs (suc l) m w) ≡ askAll m (take n keys) (needs 2 m start)
-      asked-here = ap (λ (j : ℕ). askAll m (take c keys₁) (needs j m w)) (sym s) ∙ L .addresses
+      asked-here : cacheAll m (take c keys₁) (needs (suc l) m w) ≡ cacheAll m (take n keys) (needs 2 m start)
+      asked-here = ap (λ (j : ℕ). cacheAll m (take c keys₁) (needs j m w)) (sym s) ∙ L .addresses
 
       pub lead-beyond : Missing ≡ pte m w → Beyond ≡ leads 2 m start
       lead-beyond h = leads-beyond m w l h ∙ whole-here
@@ -108,7 +106,7 @@ module _ {m : List ℕ} {start : Walk} {n : ℕ} {keys : List ℕ} where
 
       module _ {c′ : ℕ} {keys₂ words₂ slots₂ : List ℕ} (A : Asked m (ptea w ∷ []) c keys₁ c′ keys₂ words₂ slots₂) where
         stops : ptea w ∷ [] ≡ needs (suc l) m w → Asked m (needs 2 m start) n keys c′ keys₂ words₂ slots₂
-        stops h = record { kept = A .kept; addresses = A .addresses ∙ ap (askAll m (take c keys₁)) h ∙ asked-here }
+        stops h = record { kept = A .kept; addresses = A .addresses ∙ ap (cacheAll m (take c keys₁)) h ∙ asked-here }
 
         pub asked-to-beyond : Missing ≡ pte m w → Asked m (needs 2 m start) n keys c′ keys₂ words₂ slots₂
         asked-to-beyond h = stops (needs-beyond m w l h)
@@ -117,13 +115,13 @@ module _ {m : List ℕ} {start : Walk} {n : ℕ} {keys : List ℕ} where
         asked-to-absent e h p = stops (needs-absent m w l e h p)
 
         pub lead-next : (e : ℕ) → Word e ≡ pte m w → pteP e ≡ true → Leading m start n keys (wext w e) l c′ keys₂ words₂ slots₂
-        unfolding askAll
+        unfolding cacheAll
         lead-next e h p = record {
           kept = A .kept;
           level = omega (arith, wext-fields w e p .level, L .level, s);
           room = omega (arith, L .room, s, grows A (omega (arith, L .kept .few, L .kept .keys-long)));
           whole = leads-on m w l e h p ∙ whole-here;
-          addresses = ap (λ (k : List ℕ). askAll m k (needs l m (wext w e))) (A .addresses) ∙ ap (askAll m (take c keys₁)) (needs-on m w l e h p) ∙ asked-here;
+          addresses = ap (λ (k : List ℕ). cacheAll m k (needs l m (wext w e))) (A .addresses) ∙ ap (cacheAll m (take c keys₁)) (needs-on m w l e h p) ∙ asked-here;
         }
 
 -- the walk as the code extended it

@@ -1,4 +1,4 @@
-pub mod Keeping
+pub mod Caching
 pub mod Different
 pub mod Leading
 pub mod Filling

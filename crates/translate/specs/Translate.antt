@@ -32,7 +32,8 @@ unfoldable pub leadsBy : (Walk → Translation) → Walk → Entry → Translati
 leadsBy f w (Word e) = if pteP e then f (wext w e) else Absent (walkLevel w)
 leadsBy f w Missing = Beyond
 
--- where a walk leads that has n levels to go: to a page, with the rights of the last entry, or to an entry that is absent or beyond memory
+-- where a walk leads that has n levels to go: to a page, with the rights of the last entry, where it is complete (definition 15), or to an entry
+-- that is absent or beyond memory
 unfoldable pub leads : ℕ → List ℕ → Walk → Translation
 leads zero m w = Mapped (walkBa w) (walkR w)
 leads (suc n) m w = leadsBy (leads n m) w (pte m w)
@@ -54,6 +55,7 @@ translationWords (Mapped page rights) = 0 ∷ page ∷ rights ∷ []
 translationWords (Absent level) = 1 ∷ level ∷ 0 ∷ []
 translationWords Beyond = 2 ∷ 0 ∷ 0 ∷ []
 
+-- the words for the addresses l of the core with block b
 unfoldable pub answersFor : List ℕ → List ℕ → List ℕ → List ℕ
 answersFor b m l = flatMap (λ (a : ℕ). translationWords (leads 2 m (walkFor b a))) l
 
@@ -66,14 +68,14 @@ different (x ∷ l) = if has x l then different l else suc (different l)
 abbrev pub isThere : List ℕ → ℕ → Bool
 isThere m a = leb (a + 4) (length m)
 
--- the entries that all the walks need
+-- the entries that all the walks need; how many different ones of them are in memory
 unfoldable pub needsFor : List ℕ → List ℕ → List ℕ → List ℕ
 needsFor b m l = flatMap (λ (a : ℕ). needs 2 m (walkFor b a)) l
 
 unfoldable pub readsFor : List ℕ → List ℕ → List ℕ → ℕ
 readsFor b m l = different (select (isThere m) (needsFor b m l))
 
--- ---- the operation for core k: it fills the lent words, and answers the number of entries read; a refusal writes nothing
+-- ---- the operation for core k and the addresses l: it fills the lent words r, and answers the number of entries read; a refusal writes nothing
 
 pub record Answers : Type 0 where
   pub answer : Translated

@@ -1,5 +1,5 @@
 // Where virtual addresses lead, by walks through the page tables in memory (specs/Translate.antt). Nothing of the machine is written.
-mod kept;
+mod cache;
 
 use layout::CORES;
 use records::Walk;
@@ -7,12 +7,12 @@ use tables::block;
 use tlb::Entry;
 ghost use mathlib.Core.Path.{_≡_};
 ghost use mathlib.Core.List.{[], _∷_};
-ghost use Prim.Native.Nat.{_+_, _*_, _≤_, _<_, _^_};
-ghost use lib.ListN.{length, take};
+ghost use Prim.Native.Nat.{_+_, _*_, _≤_};
+ghost use lib.ListN.{length};
 ghost use lib.Seq.{sets};
 ghost use Rattle.tlb.specs.Walks.{walkLevel};
 ghost use Rattle.translate.specs.Translate as x;
-ghost use Rattle.translate.specs.inner.Kept.{Kept, Asked};
+ghost use Rattle.translate.specs.inner.Cache.{Cached, Asked};
 
 // Where an address leads: to a page with the rights of the last entry; to an entry that is absent, at a level; or to one beyond memory.
 pub enum Translation {
@@ -42,7 +42,7 @@ fn lead(
     words: &mut [u32],
     slots: &mut [u8],
 ) -> Led
-    requires { ⌜ Kept (now m) n (now keys) (now words) (now slots) ⌝ }
+    requires { ⌜ Cached (now m) n (now keys) (now words) (now slots) ⌝ }
     requires { ⌜ (n ≤ 126) × (walkLevel start ≡ 2) ⌝ }
     ensures { λ r. ⌜ r .to ≡ x.leads 2 (now (m .entry)) start ⌝ }
     ensures { λ r. ⌜ Asked (now (m .entry)) (x.needs 2 (now (m .entry)) start) n (now (keys .entry)) (r .kept) (now (keys .exit)) (now (words .exit)) (now (slots .exit)) ⌝ }
@@ -51,7 +51,7 @@ fn lead(
     let mut k = n;
     let mut left: u32 = 2;
     while 0 < left {
-        let got = kept::entry(m, tlb::ptea(w), k, keys, words, slots);
+        let got = cache::entry(m, tlb::ptea(w), k, keys, words, slots);
         k = got.kept;
         let found = got.entry;
         let Entry::Word(e) = found else {
@@ -108,7 +108,7 @@ fn each(
     slots: &mut [u8],
 ) -> usize
     requires { ⌜ (length (now b) ≡ 256) × (length (now addresses) ≤ 64) × (length (now answers) ≡ 3 * length (now addresses)) ⌝ }
-    requires { ⌜ Kept (now m) 0 (now keys) (now words) (now slots) ⌝ }
+    requires { ⌜ Cached (now m) 0 (now keys) (now words) (now slots) ⌝ }
     ensures { λ r. ⌜ (r ≡ x.readsFor (now (b .entry)) (now (m .entry)) (now (addresses .entry))) × (r ≤ 128) ⌝ }
     ensures { λ _. ⌜ now (answers .exit) ≡ x.answersFor (now (b .entry)) (now (m .entry)) (now (addresses .entry)) ⌝ }
 {

@@ -1,6 +1,6 @@
 -- `translate::lead` meets its contract. The invariant: what is left of the walk gives the whole (Leading).
 -- Assumes nothing.
-use mathlib.Core.Path.{refl, sym, ap, _∙_}
+use mathlib.Core.Path.{sym, ap, _∙_}
 use Prim.Native.Nat.{ℕ, _-_}
 use native.Mathlib.Omega.{arith}
 use borrow.Author.Tests.{not-true, not-false, ne-eqb}
@@ -42,7 +42,7 @@ same-length-3 : tie.Need-same-length-3 Inv-loop μ-loop
 same-length-3 c = c .before .before .before .before .before .before .before .before .entry .ensures .1 .kept .slots-long ∙ sym (c .before .before .before .before .before .before .before .before .before .before .before .before .before .before .before .before .before .before .before .pre .0 .slots-long)
 
 returns : tie.Need-returns Inv-loop μ-loop
-returns c = let e = c .before .before .before .before .before .before .before .before .before .before .before .before .before .before .before .before .before .before .before in let l = c .before .before .before .before .before .before .before .before .before .before .before .before .before .before .loop in let g = c .before .before .before .before .before .before .before .before .entry .ensures in let q = c .before .before .before .before .before .before .before .before .before .before .before .before .ptea .ensures in let h = at-entry _ _ _ q (g .0) (c .enum-told .given .1) in (lead-beyond (l .left) (l .left - 1) (omega arith) (l .inv) h, asked-to-beyond (l .left) (l .left - 1) (omega arith) (l .inv) (at-asked _ _ _ q (g .1)) h)
+returns c = let l = c .before .before .before .before .before .before .before .before .before .before .before .before .before .before .loop in let g = c .before .before .before .before .before .before .before .before .entry .ensures in let q = c .before .before .before .before .before .before .before .before .before .before .before .before .ptea .ensures in let h = at-entry _ _ _ q (g .0) (c .enum-told .given .1) in (lead-beyond (l .left) (l .left - 1) (omega arith) (l .inv) h, asked-to-beyond (l .left) (l .left - 1) (omega arith) (l .inv) (at-asked _ _ _ q (g .1)) h)
 
 present-requires : tie.Need-present-requires Inv-loop μ-loop
 present-requires c κs = search needs
@@ -57,7 +57,7 @@ same-length-6 : tie.Need-same-length-6 Inv-loop μ-loop
 same-length-6 c = c .before .before .before .before .before .before .before .before .before .before .before .entry .ensures .1 .kept .slots-long ∙ sym (c .before .before .before .before .before .before .before .before .before .before .before .before .before .before .before .before .before .before .before .before .before .before .pre .0 .slots-long)
 
 returns-2 : tie.Need-returns-2 Inv-loop μ-loop
-returns-2 c = let e = c .before .before .before .before .before .before .before .before .before .before .before .before .before .before .before .before .before .before .before .before .before .before in let l = c .before .before .before .before .before .before .before .before .before .before .before .before .before .before .before .before .before .loop in let g = c .before .before .before .before .before .before .before .before .before .before .before .entry .ensures in let q = c .before .before .before .before .before .before .before .before .before .before .before .before .before .before .before .ptea .ensures in let h = at-entry _ _ _ q (g .0) (c .before .before .before .found .given .1) in let p = sym (c .before .present .ensures) ∙ not-true _ (c .if1 .taken) in (lead-absent (l .left) (l .left - 1) (omega arith) (l .inv) _ h p, asked-to-absent (l .left) (l .left - 1) (omega arith) (l .inv) (at-asked _ _ _ q (g .1)) _ h p)
+returns-2 c = let l = c .before .before .before .before .before .before .before .before .before .before .before .before .before .before .before .before .before .loop in let g = c .before .before .before .before .before .before .before .before .before .before .before .entry .ensures in let q = c .before .before .before .before .before .before .before .before .before .before .before .before .before .before .before .ptea .ensures in let h = at-entry _ _ _ q (g .0) (c .before .before .before .found .given .1) in let p = sym (c .before .present .ensures) ∙ not-true _ (c .if1 .taken) in (lead-absent (l .left) (l .left - 1) (omega arith) (l .inv) _ h p, asked-to-absent (l .left) (l .left - 1) (omega arith) (l .inv) (at-asked _ _ _ q (g .1)) _ h p)
 
 wext-requires : tie.Need-wext-requires Inv-loop μ-loop
 wext-requires c κs = let l = c .before .before .before .before .before .before .before .before .before .before .before .before .before .before .before .before .before .loop in ne-eqb (walkLevel (l .w)) 0 (λ z. omega (arith, l .inv .level))
@@ -69,7 +69,7 @@ loop-less : tie.Need-loop-less Inv-loop μ-loop
 loop-less c = omega arith
 
 loop-again : tie.Need-loop-again Inv-loop μ-loop
-loop-again c = let e = c .before .before .before .before .before .before .before .before .before .before .before .before .before .before .before .before .before .before .before .before .before .before .before in let l = c .before .before .before .before .before .before .before .before .before .before .before .before .before .before .before .before .before .before .loop in let g = c .before .before .before .before .before .before .before .before .before .before .before .before .entry .ensures in let q = c .before .before .before .before .before .before .before .before .before .before .before .before .before .before .before .before .ptea .ensures in let h = at-entry _ _ _ q (g .0) (c .before .before .before .before .found .given .1) in let p = sym (c .before .before .present .ensures) ∙ not-false _ (c .before .if1 .left) in again (c .wext .ensures) (lead-next (l .left) (l .left - 1) (omega arith) (l .inv) (at-asked _ _ _ q (g .1)) _ h p)
+loop-again c = let l = c .before .before .before .before .before .before .before .before .before .before .before .before .before .before .before .before .before .before .loop in let g = c .before .before .before .before .before .before .before .before .before .before .before .before .entry .ensures in let q = c .before .before .before .before .before .before .before .before .before .before .before .before .before .before .before .before .ptea .ensures in let h = at-entry _ _ _ q (g .0) (c .before .before .before .before .found .given .1) in let p = sym (c .before .before .present .ensures) ∙ not-false _ (c .before .if1 .left) in again (c .wext .ensures) (lead-next (l .left) (l .left - 1) (omega arith) (l .inv) (at-asked _ _ _ q (g .1)) _ h p)
 
 rights-requires : tie.Need-rights-requires Inv-loop μ-loop
 rights-requires c κs = search needs

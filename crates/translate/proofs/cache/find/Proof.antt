@@ -1,13 +1,13 @@
--- `translate::kept::find` meets its contract: by a free slot, by the place that the slot names, or by the search.
+-- `translate::cache::find` meets its contract: by a free slot, by the place that the slot names, or by the search.
 -- Assumes nothing.
 use mathlib.Core.Path.{sym, ap, _∙_}
 use Prim.Native.Nat.{ℕ}
 use native.Mathlib.Omega.{arith}
 use lib.ListN.{getD}
-use Rattle.translate.proofs.Keeping.{free-slot}
+use Rattle.translate.proofs.Caching.{free-slot}
 use borrow.Author.Needs.{needs}
-use Rattle.translate.proofs.kept.find.Statement.{statement}
-use Rattle.translate.proofs.kept.find.Tie as tie
+use Rattle.translate.proofs.cache.find.Statement.{statement}
+use Rattle.translate.proofs.cache.find.Tie as tie
 
 slot-requires : tie.Need-slot-requires
 slot-requires c κs = search needs

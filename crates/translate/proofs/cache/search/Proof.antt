@@ -1,13 +1,12 @@
--- `translate::kept::search` meets its contract. The invariant: no address before i is the one looked for.
+-- `translate::cache::search` meets its contract. The invariant: no address before i is the one looked for.
 -- Assumes nothing.
-use mathlib.Core.Path.{_≡_, sym, _∙_}
+use mathlib.Core.Path.{_≡_}
 use Prim.Native.Nat.{ℕ, _-_, _≤_, _<_}
 use native.Mathlib.Omega.{arith}
 use lib.ListN.{getD}
-use Rattle.translate.proofs.Keeping.{places, none-among}
-use borrow.Author.Needs.{needs}
-use Rattle.translate.proofs.kept.search.Statement.{statement}
-use Rattle.translate.proofs.kept.search.Tie as tie
+use Rattle.translate.proofs.Caching.{places, none-among}
+use Rattle.translate.proofs.cache.search.Statement.{statement}
+use Rattle.translate.proofs.cache.search.Tie as tie
 
 abbrev Inv-loop : tie.InvT-loop
 Inv-loop at n keys i₀ i = (i ≤ n) × ((j : ℕ) → j < i → getD keys j 0 ≡ at → ⊥)

@@ -1,12 +1,12 @@
--- `translate::kept::entry` meets its contract: beyond memory, kept before, or read and kept now.
+-- `translate::cache::entry` meets its contract: beyond memory, kept before, or read and kept now.
 -- Assumes nothing.
 use mathlib.Core.Path.{refl}
 use native.Mathlib.Omega.{arith}
 use Rattle.tlb.proofs.Entries.{read-in, read-out}
-use Rattle.translate.proofs.Keeping.{found, asked-beyond, asked-again, again-word, asked-new-at}
+use Rattle.translate.proofs.Caching.{found, asked-beyond, asked-again, again-word, asked-new-at}
 use borrow.Author.Needs.{needs}
-use Rattle.translate.proofs.kept.entry.Statement.{statement}
-use Rattle.translate.proofs.kept.entry.Tie as tie
+use Rattle.translate.proofs.cache.entry.Statement.{statement}
+use Rattle.translate.proofs.cache.entry.Tie as tie
 
 add-more : tie.Need-add-more
 add-more c = search needs

@@ -1,11 +1,11 @@
 -- Entries that are kept: where an address stands among them, and what is kept after one more was asked for.
 -- Assumes nothing.
 use mathlib.Core.Path.{_≡_, refl, sym, ap, subst, _∙_}
-use mathlib.Core.Bool.{Bool, true, false, _&&_, _||_, not}
+use mathlib.Core.Bool.{Bool, true, false, _||_}
 use mathlib.Core.List.{List, [], _∷_, _++_}
 use Prim.Native.Nat.{ℕ, zero, suc, _+_, _≤_, _<_}
 use native.Mathlib.Omega.{arith}
-use lib.Dec.{eqb, leb}
+use lib.Dec.{eqb}
 use lib.ListN.{length, getD, take, set, length-set}
 use lib.Seq.{take-suc, take-suc-set, getD-set-same, getD-set-other}
 use borrow.Author.Tests.{eq-eqb, ne-eqb, eqb-true, eqb-false, le-leb, lt-leb}
@@ -16,9 +16,9 @@ use Rattle.reach.proofs.Lists.{has-append}
 use Rattle.tlb.specs.declared.Entry.the-variants.{Word}
 use Rattle.tlb.specs.Walks.{entryAt}
 use Rattle.tlb.proofs.Entries.{entry-in}
-use Rattle.translate.specs.declared.kept.Place.{Place}
+use Rattle.translate.specs.declared.cache.Place.{Place}
 use Rattle.translate.specs.Translate.{isThere}
-use Rattle.translate.specs.inner.Kept.{ask, askAll, slotOf, Slotted, Kept, Finds, Asked}
+use Rattle.translate.specs.inner.Cache.{cache, cacheAll, slotOf, Slotted, Cached, Finds, Asked}
 
 -- what holds of each place before n, and of n
 pub places : (P : ℕ → Type 0) (n : ℕ) → ((i : ℕ) → i < n → P i) → P n → (i : ℕ) → i < n + 1 → P i
@@ -62,32 +62,32 @@ found a n keys p q e f = subst (Finds a n keys) e f
 -- ---- one more is asked for
 
 module _ (m k : List ℕ) (a : ℕ) where
-  pub ask-beyond : isThere m a ≡ false → ask m k a ≡ k
-  unfolding ask
-  ask-beyond e = rw e
+  cache-beyond : isThere m a ≡ false → cache m k a ≡ k
+  unfolding cache
+  cache-beyond e = rw e
 
-  pub ask-again : has a k ≡ true → ask m k a ≡ k
-  unfolding ask
-  ask-again e = rw (e, and-none (isThere m a) false refl)
+  cache-again : has a k ≡ true → cache m k a ≡ k
+  unfolding cache
+  cache-again e = rw (e, and-none (isThere m a) false refl)
 
-  pub ask-new : isThere m a ≡ true → has a k ≡ false → ask m k a ≡ k ++ (a ∷ [])
-  unfolding ask
-  ask-new e f = rw (e, f)
+  cache-new : isThere m a ≡ true → has a k ≡ false → cache m k a ≡ k ++ (a ∷ [])
+  unfolding cache
+  cache-new e f = rw (e, f)
 
-pub ask-one : (m k : List ℕ) (a : ℕ) → ask m k a ≡ askAll m k (a ∷ [])
-unfolding askAll
-ask-one m k a = refl
+cache-one : (m k : List ℕ) (a : ℕ) → cache m k a ≡ cacheAll m k (a ∷ [])
+unfolding cacheAll
+cache-one m k a = refl
 
-module _ (m : List ℕ) (a n : ℕ) (keys words slots : List ℕ) (K : Kept m n keys words slots) where
-  same-kept : take n keys ≡ ask m (take n keys) a → Asked m (a ∷ []) n keys n keys words slots
-  same-kept e = record { kept = K; addresses = e ∙ ask-one m (take n keys) a }
+module _ (m : List ℕ) (a n : ℕ) (keys words slots : List ℕ) (K : Cached m n keys words slots) where
+  same-kept : take n keys ≡ cache m (take n keys) a → Asked m (a ∷ []) n keys n keys words slots
+  same-kept e = record { kept = K; addresses = e ∙ cache-one m (take n keys) a }
 
   pub asked-beyond : length m < a + 4 → Asked m (a ∷ []) n keys n keys words slots
-  asked-beyond h = same-kept (sym (ask-beyond m (take n keys) a (lt-leb (a + 4) (length m) h)))
+  asked-beyond h = same-kept (sym (cache-beyond m (take n keys) a (lt-leb (a + 4) (length m) h)))
 
   module _ (i : ℕ) (p : i < n) (e : getD keys i 0 ≡ a) where
     pub asked-again : Asked m (a ∷ []) n keys n keys words slots
-    asked-again = same-kept (sym (ask-again m (take n keys) a (one-among a keys n i (omega (arith, K .few, K .keys-long)) p e)))
+    asked-again = same-kept (sym (cache-again m (take n keys) a (one-among a keys n i (omega (arith, K .few, K .keys-long)) p e)))
 
     pub again-word : a + 4 ≤ length m → Word (getD words i 0) ≡ entryAt m a
     again-word h = ap Word (K .read i p ∙ ap (bytesAt 4 m) e) ∙ entry-in m a h
@@ -109,7 +109,7 @@ module _ (m : List ℕ) (a n : ℕ) (keys words slots : List ℕ) (K : Kept m n 
         go true q = let z = ap (λ (j : ℕ). getD (set slots (slotOf a) v) j 0) (eqb-true (slotOf x) (slotOf a) q) ∙ getD-set-same slots (slotOf a) v 0 slot-low in subst (λ (j : ℕ). 0 < j) (sym z) pos
         go false q = subst (λ (j : ℕ). 0 < j) (sym (getD-set-other slots (slotOf a) (slotOf x) v 0 (eqb-false (slotOf x) (slotOf a) q))) u
 
-    pub kept-new : Kept m (n + 1) (set keys n a) (set words n e) (set slots (slotOf a) v)
+    kept-new : Cached m (n + 1) (set keys n a) (set words n e) (set slots (slotOf a) v)
     kept-new = record {
       few = omega arith;
       keys-long = length-set keys n a ∙ K .keys-long;
@@ -123,11 +123,11 @@ module _ (m : List ℕ) (a n : ℕ) (keys words slots : List ℕ) (K : Kept m n 
           (subst (λ (x : ℕ). 0 < getD (set slots (slotOf a) v) (slotOf x) 0) (sym keys-here) (subst (λ (j : ℕ). 0 < j) (sym (getD-set-same slots (slotOf a) v 0 slot-low)) pos));
     }
 
-    pub asked-new : Asked m (a ∷ []) n keys (n + 1) (set keys n a) (set words n e) (set slots (slotOf a) v)
+    asked-new : Asked m (a ∷ []) n keys (n + 1) (set keys n a) (set words n e) (set slots (slotOf a) v)
     asked-new = let u : n + 1 ≡ suc n = omega arith in record {
       kept = kept-new;
       addresses = ap (λ (j : ℕ). take j (set keys n a)) u ∙ take-suc-set keys n a (omega (arith, K .keys-long))
-          ∙ sym (ask-new m (take n keys) a (le-leb (a + 4) (length m) there) f) ∙ ask-one m (take n keys) a;
+          ∙ sym (cache-new m (take n keys) a (le-leb (a + 4) (length m) there) f) ∙ cache-one m (take n keys) a;
     }
 
     -- with the slot as it was computed

@@ -3,24 +3,24 @@
 -- specs/Translate.antt, and the contract of translate speaks of that file only.
 -- Assumes nothing.
 use mathlib.Core.Path.{_≡_}
-use mathlib.Core.Bool.{Bool, false, _&&_, not}
+use mathlib.Core.Bool.{false, _&&_, not}
 use mathlib.Core.List.{List, [], _∷_, _++_}
 use Prim.Native.Nat.{ℕ, _+_, _*_, _/_, _%_, _≤_, _<_}
 use lib.ListN.{length, getD, take}
 use Rattle.word.specs.Word.{if_then_else_}
 use Rattle.word.specs.Bytes.{bytesAt}
 use Rattle.reach.specs.Lists.{has}
-use Rattle.translate.specs.declared.kept.Place.{Place}
-use Rattle.translate.specs.declared.kept.Place.the-variants.{At, Nowhere}
+use Rattle.translate.specs.declared.cache.Place.{Place}
+use Rattle.translate.specs.declared.cache.Place.the-variants.{At, Nowhere}
 use Rattle.translate.specs.Translate.{isThere}
 
 -- the addresses kept after the entry at a was asked for; after all of a list were
-unfoldable pub ask : List ℕ → List ℕ → ℕ → List ℕ
-ask m k a = if isThere m a && not (has a k) then k ++ (a ∷ []) else k
+unfoldable pub cache : List ℕ → List ℕ → ℕ → List ℕ
+cache m k a = if isThere m a && not (has a k) then k ++ (a ∷ []) else k
 
-unfoldable pub askAll : List ℕ → List ℕ → List ℕ → List ℕ
-askAll m k [] = k
-askAll m k (a ∷ l) = askAll m (ask m k a) l
+unfoldable pub cacheAll : List ℕ → List ℕ → List ℕ → List ℕ
+cacheAll m k [] = k
+cacheAll m k (a ∷ l) = cacheAll m (cache m k a) l
 
 -- the slot of an address: its place in the table, moved by the page, so that the entries of neighbouring tables have slots far apart
 abbrev pub slotOf : ℕ → ℕ
@@ -31,7 +31,7 @@ abbrev pub Slotted : ℕ → List ℕ → List ℕ → Type 0
 Slotted n keys slots = (i : ℕ) → i < n → 0 < getD slots (slotOf (getD keys i 0)) 0
 
 -- n entries of the memory m are kept
-pub record Kept (m : List ℕ) (n : ℕ) (keys words slots : List ℕ) : Type 0 where
+pub record Cached (m : List ℕ) (n : ℕ) (keys words slots : List ℕ) : Type 0 where
   pub few : n ≤ 128
   pub keys-long : length keys ≡ 128
   pub words-long : length words ≡ 128
@@ -46,5 +46,5 @@ Finds a n keys Nowhere = has a (take n keys) ≡ false
 
 -- what was kept after the entries at the addresses l were asked for: c entries, each once
 pub record Asked (m l : List ℕ) (n : ℕ) (keys : List ℕ) (c : ℕ) (keys′ words′ slots′ : List ℕ) : Type 0 where
-  pub kept : Kept m c keys′ words′ slots′
-  pub addresses : take c keys′ ≡ askAll m (take n keys) l
+  pub kept : Cached m c keys′ words′ slots′
+  pub addresses : take c keys′ ≡ cacheAll m (take n keys) l

@@ -1,12 +1,12 @@
-// The entries that were read, kept with their addresses in arrays, so that none is read twice (specs/inner/Kept.antt). A slot holds one more than the
+// The entries that were read, kept with their addresses in arrays, so that none is read twice (specs/inner/Cache.antt). A slot holds one more than the
 // place of an address with that slot, the last one kept, and 0 where there is none: it says at once that an address is new, or where it most likely stands.
 use tlb::Entry;
 ghost use mathlib.Core.Path.{_≡_};
 ghost use mathlib.Core.List.{[], _∷_};
-ghost use Prim.Native.Nat.{_+_, _≤_, _<_};
+ghost use Prim.Native.Nat.{_≤_, _<_};
 ghost use lib.ListN.{length};
 ghost use Rattle.tlb.specs.Walks.{entryAt};
-ghost use Rattle.translate.specs.inner.Kept as x;
+ghost use Rattle.translate.specs.inner.Cache as x;
 
 pub enum Place {
     At(usize),
@@ -45,6 +45,7 @@ fn find(at: u32, n: usize, keys: &[u32], slots: &[u8]) -> Place
     if next == 0 {
         return Place::Nowhere;
     }
+    // It always is; as a guess it need not be shown.
     if next <= n {
         let i = next - 1;
         if keys[i] == at {
@@ -69,7 +70,7 @@ pub(crate) fn entry(
     words: &mut [u32],
     slots: &mut [u8],
 ) -> Got
-    requires { ⌜ x.Kept (now m) n (now keys) (now words) (now slots) ⌝ }
+    requires { ⌜ x.Cached (now m) n (now keys) (now words) (now slots) ⌝ }
     requires { ⌜ n < 128 ⌝ }
     ensures { λ r. ⌜ r .entry ≡ entryAt (now (m .entry)) at ⌝ }
     ensures { λ r. ⌜ x.Asked (now (m .entry)) (at ∷ []) n (now (keys .entry)) (r .kept) (now (keys .exit)) (now (words .exit)) (now (slots .exit)) ⌝ }
