@@ -45,7 +45,7 @@ fn find(at: u32, n: usize, keys: &[u32], slots: &[u8]) -> Place
     if next == 0 {
         return Place::Nowhere;
     }
-    // It always is; as a guess it need not be shown.
+    // A slot is a guess: whether it names a place that is kept is asked here and not proved.
     if next <= n {
         let i = next - 1;
         if keys[i] == at {
