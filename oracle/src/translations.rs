@@ -68,7 +68,7 @@ pub fn translations(seed: u32) -> Vec<Translations> {
             all.push(finish(machine, questions, &mut counts));
             idle = 0;
         }
-        assert!(idle < 2_000, "{section}: {name} does not occur");
+        assert!(idle < 200_000, "{section}: {name} does not occur");
     }
     all
 }
