@@ -23,7 +23,7 @@ pub const KINDS: [&str; 12] = [
 ];
 
 /// Events beside kinds, instructions and refusals.
-pub const EVENTS: [&str; 101] = [
+pub const EVENTS: [&str; 103] = [
     "fetch in system mode",
     "fetch through a walk",
     "misaligned pc",
@@ -85,7 +85,6 @@ pub const EVENTS: [&str; 101] = [
     "interrupt at another level moves a vector",
     "external event hidden by a vector in service",
     "external event masked by sr",
-    "overflow masked by sr",
     "eret clears a vector in service",
     "eret to user mode",
     "movg2s to user mode",
@@ -125,7 +124,43 @@ pub const EVENTS: [&str; 101] = [
     "interrupt spares a refusal 8",
     "j or jal whose pc + 4 carries into the upper four bits",
     "jalr with rd and rs the same register",
+    "slt, slti, sltu or sltiu done, sr bit 7 set, the difference does not fit",
+    "another ALU instruction done, sr bit 7 set, the sum does not fit",
+    "shift done, sr bit 7 set, the sum of rs and rt does not fit",
 ];
+
+/// What adds and subtracts. The first three overflow.
+pub const SUMS: [Op; 6] = [Op::Add, Op::Addi, Op::Sub, Op::Addu, Op::Addiu, Op::Subu];
+
+/// What a sum or difference meets, what add, addi and sub then answer, and
+/// what addu, addiu and subu do. Where sr is not spoken of its bit 7 is set,
+/// and an event is external, due and not masked. Result, carry and borrow are
+/// those of 32 bits.
+pub const SUM_ROWS: [(&str, &str, &str); 15] = [
+    ("too large (add: no carry; sub: borrow)", "interrupt 7", "done"),
+    ("too small (add: carry; sub: no borrow)", "interrupt 7", "done"),
+    ("does not fit, user mode", "interrupt 7", "done"),
+    ("does not fit, system mode", "interrupt 7", "done"),
+    ("does not fit, into register 0", "interrupt 7", "done"),
+    ("does not fit, would with zeros before the immediate", "interrupt 7", "done"),
+    ("does not fit, event masked by sr", "interrupt 7", "done"),
+    ("does not fit, event", "interrupt 1, eca 82", "interrupt 1, eca 2"),
+    ("does not fit, event, overflow masked by sr", "interrupt 1, eca 2", "interrupt 1, eca 2"),
+    ("does not fit, overflow masked by sr", "done", "done"),
+    ("fits, carry or borrow", "done", "done"),
+    ("fits, neither carry nor borrow", "done", "done"),
+    ("fits, result 7FFFFFFF", "done", "done"),
+    ("fits, result 80000000", "done", "done"),
+    ("fits, would not with zeros before the immediate", "done", "done"),
+];
+
+/// The name a cell of that table is counted by; None where it cannot be.
+pub fn sum_cell(row: usize, op: Op) -> Option<String> {
+    let (text, overflowing, never) = SUM_ROWS[row];
+    let answer = if matches!(op, Op::Add | Op::Addi | Op::Sub) { overflowing } else { never };
+    let immediate = matches!(op, Op::Addi | Op::Addiu);
+    (immediate || !text.ends_with("immediate")).then(|| format!("{text}: {} {answer}", isa::row(op).name))
+}
 
 pub const RUNS: [&str; 5] = ["end", "limit spent", "a step's refusal", "refused 4", "refused 11"];
 
@@ -234,10 +269,14 @@ impl Counts {
                 self.event("byte, half or cas at a port, misaligned, refused 6")
             }
             Why::Hazard if misaligned => self.event("hazard, misaligned, refused 6"),
-            Why::BufferNotEmpty if op == Op::Cas && t0[b + MODE] & 1 == 1 => {
-                if held(t0, b, data) && !data.complete() && data.pte(m0).is_none() {
-                    self.event("cas with stores pending and its entry outside memory, refused 6");
-                }
+            Why::BufferNotEmpty
+                if op == Op::Cas
+                    && t0[b + MODE] & 1 == 1
+                    && held(t0, b, data)
+                    && !data.complete()
+                    && data.pte(m0).is_none() =>
+            {
+                self.event("cas with stores pending and its entry outside memory, refused 6")
             }
             _ => {}
         }
@@ -295,6 +334,9 @@ impl Counts {
             return;
         };
         self.add(if effect { "effect" } else { "interrupted" }, isa::row(op).name);
+        if SUMS.contains(&op) {
+            self.sum(t0, b, op, i, answer, t);
+        }
 
         let accesses = isa::load(op) || isa::store(op) || op == Op::Cas;
         let data = Walk { first: s[4], base: s[5] };
@@ -369,13 +411,6 @@ impl Counts {
             Op::Jalr if isa::rd(i) == isa::rs(i) && isa::rd(i) != 0 => {
                 self.event("jalr with rd and rs the same register")
             }
-            Op::Addu | Op::Addiu | Op::Subu => {
-                let rtype = isa::compr(op);
-                let right = if rtype { rt } else { isa::rop_immediate(i) };
-                if isa::alures(rs, right, isa::alucon(i, rtype), !rtype).1 {
-                    self.event("overflow masked by sr");
-                }
-            }
             _ => {}
         }
         let destination = match op {
@@ -388,8 +423,71 @@ impl Counts {
         if destination == 0 {
             self.event("write to general register 0");
         }
+        if t0[b + SR] >> 7 & 1 == 1 && !SUMS.contains(&op) {
+            let right = if isa::compi(op) { isa::rop_immediate(i) } else { rt };
+            let (x, y) = (rs as i32, right as i32);
+            match op {
+                Op::Slt | Op::Slti | Op::Sltu | Op::Sltiu if x.checked_sub(y).is_some() => {}
+                Op::Slt | Op::Slti | Op::Sltu | Op::Sltiu => {
+                    self.event("slt, slti, sltu or sltiu done, sr bit 7 set, the difference does not fit")
+                }
+                _ if x.checked_add(y).is_some() => {}
+                Op::Sll | Op::Srl | Op::Sra | Op::Sllv | Op::Srlv | Op::Srav => {
+                    self.event("shift done, sr bit 7 set, the sum of rs and rt does not fit")
+                }
+                _ if isa::alu(op) => self.event("another ALU instruction done, sr bit 7 set, the sum does not fit"),
+                _ => {}
+            }
+        }
         if !user && t[b + MODE] & 1 == 0 && t[b + PC] as usize >= m.len() {
             self.event("core wraps past pc FFFFFFFC or jumps beyond memory");
+        }
+    }
+
+    /// One of the six that add and subtract.
+    fn sum(&mut self, t0: &[u32], b: usize, op: Op, i: u32, answer: Answer, t: &[u32]) {
+        let left = t0[b + isa::rs(i)];
+        let right = if isa::compr(op) { t0[b + isa::rt(i)] } else { isa::rop_immediate(i) };
+        let (x, y) = (left as i32 as i64, right as i32 as i64);
+        let difference = matches!(op, Op::Sub | Op::Subu);
+        let (exact, result, carry) = if difference {
+            (x - y, left.wrapping_sub(right), left < right)
+        } else {
+            (x + y, left.wrapping_add(right), left.checked_add(right).is_none())
+        };
+        let fits = |exact: i64| i32::try_from(exact).is_ok();
+        let with_zeros = fits(x + isa::imm(i) as i64); // of an immediate
+        let due = external_event(t0, b).is_some();
+        let event = due && t0[b + SR] >> 1 & 1 == 1;
+        let masked = t0[b + SR] >> 7 & 1 == 0;
+        let destination = if isa::compr(op) { isa::rd(i) } else { isa::rt(i) };
+        let shown = match answer {
+            Answer::Interrupt(1) => format!("interrupt 1, eca {:X}", t[b + ECA]),
+            _ => answer.to_string(),
+        };
+        let plain = !event && !masked;
+        for (text, _, _) in SUM_ROWS {
+            let occurs = match text {
+                "too large (add: no carry; sub: borrow)" => plain && exact > i32::MAX as i64 && carry == difference,
+                "too small (add: carry; sub: no borrow)" => plain && exact < i32::MIN as i64 && carry != difference,
+                "does not fit, user mode" => plain && !fits(exact) && t0[b + MODE] & 1 == 1,
+                "does not fit, system mode" => plain && !fits(exact) && t0[b + MODE] & 1 == 0,
+                "does not fit, into register 0" => plain && !fits(exact) && destination == 0,
+                "does not fit, would with zeros before the immediate" => plain && !fits(exact) && with_zeros,
+                "does not fit, event masked by sr" => plain && !fits(exact) && due,
+                "does not fit, event" => event && !masked && !fits(exact),
+                "does not fit, event, overflow masked by sr" => event && masked && !fits(exact),
+                "does not fit, overflow masked by sr" => !event && masked && !fits(exact),
+                "fits, carry or borrow" => plain && fits(exact) && carry,
+                "fits, neither carry nor borrow" => plain && fits(exact) && !carry,
+                "fits, result 7FFFFFFF" => plain && fits(exact) && result == 0x7FFF_FFFF,
+                "fits, result 80000000" => plain && fits(exact) && result == 0x8000_0000,
+                "fits, would not with zeros before the immediate" => plain && fits(exact) && !with_zeros,
+                _ => unreachable!("{text}"),
+            };
+            if occurs {
+                self.add("sum", &format!("{text}: {} {shown}", isa::row(op).name));
+            }
         }
     }
 
@@ -538,6 +636,12 @@ impl Counts {
 
     // ------------------------------------------------------------ printing
 
+    /// Every sum or difference that must occur, and of which instruction.
+    pub fn expected_sums() -> Vec<(Op, String)> {
+        let cells = (0..SUM_ROWS.len()).flat_map(|row| SUMS.map(|op| (op, sum_cell(row, op))));
+        cells.filter_map(|(op, cell)| Some((op, cell?))).collect()
+    }
+
     /// Every (section, name) that must occur.
     pub fn expected() -> Vec<(&'static str, String)> {
         let mut all = Vec::new();
@@ -555,6 +659,7 @@ impl Counts {
         all.push(("interrupted", "ill".to_string()));
         all.extend(WHYS.iter().filter(|(why, _)| *why != Why::NoFreeRecord).map(|w| ("why", w.1.to_string())));
         all.extend(EVENTS.iter().map(|e| ("event", e.to_string())));
+        all.extend(Counts::expected_sums().into_iter().map(|(_, cell)| ("sum", cell)));
         all.extend(CLAUSES.iter().map(|c| ("damage", c.1.to_string())));
         all.extend(RUNS.iter().map(|r| ("run", r.to_string())));
         all
@@ -592,6 +697,15 @@ impl Counts {
         writeln!(o, "\n| event | times |\n|---|---|").unwrap();
         for event in EVENTS {
             writeln!(o, "| {event} | {} |", self.get("event", event)).unwrap();
+        }
+        let names = SUMS.map(|op| isa::row(op).name);
+        let (overflowing, never) = (names[..3].join(" | "), names[3..].join(" | "));
+        writeln!(o, "\n| a sum or difference | answer | {overflowing} | answer | {never} |").unwrap();
+        writeln!(o, "|---|---|---|---|---|---|---|---|---|").unwrap();
+        for (row, (text, first, second)) in SUM_ROWS.iter().enumerate() {
+            let n = SUMS.map(|op| sum_cell(row, op).map_or("".into(), |cell| format!("{} ", self.get("sum", &cell))));
+            let (n, u) = n.split_at(3);
+            writeln!(o, "| {text} | {first} | {}| {second} | {}|", n.join("| "), u.join("| ")).unwrap();
         }
         writeln!(o, "\n| damaged tables, broken clause | machines |\n|---|---|").unwrap();
         for (_, text) in CLAUSES {

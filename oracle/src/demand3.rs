@@ -314,7 +314,7 @@ fn write_entries(rng: &mut Rng, board: &mut Board, side: &Side, pages: &[u32], s
             }
         }
         for (to, entry) in [(8, 9), (11, 10)] {
-            board.t[b + to] = (board.t[b + entry] & 0xFFF) / 4 << 12 | 0x10;
+            board.t[b + to] = ((board.t[b + entry] & 0xFFF) / 4) << 12 | 0x10;
         }
         let pc = board.t[b + PC];
         if side.data().contains(&(pc >> 12)) {

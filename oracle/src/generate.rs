@@ -4,7 +4,7 @@
 //! The counts of what has occurred so far steer which instructions are laid
 //! out next, so that the rare ones catch up. All is fixed by the seed.
 
-use crate::counts::Counts;
+use crate::counts::{Counts, SUMS};
 use crate::isa::{self, Op, Row, ROWS};
 use crate::machine::*;
 use crate::soundness::*;
@@ -13,6 +13,8 @@ use crate::vectors::{answer_steps, Machine, Vector};
 const LONG_VECTORS: usize = 1650;
 const CROSSED_VECTORS: usize = 2800;
 const DAMAGED_EACH: usize = 24;
+/// Each row on sums and differences occurs so often at least.
+const SUMS_EACH: u64 = 24;
 
 // ---------------------------------------------------------------- numbers
 
@@ -35,7 +37,7 @@ impl Rng {
     }
     /// 0 to n - 1.
     pub fn below(&mut self, n: u32) -> u32 {
-        (self.word() as u64 * n as u64 >> 32) as u32
+        ((self.word() as u64 * n as u64) >> 32) as u32
     }
     /// True in `percent` of 100 cases.
     pub fn chance(&mut self, percent: u32) -> bool {
@@ -110,6 +112,9 @@ struct Builder<'a> {
     wild: bool,
     /// Vectors that this machine uses mostly.
     vectors: [u32; 3],
+    /// Programs often add, addi and sub what does not fit. Those of the groups
+    /// file, which nobody runs, do not.
+    overflows: bool,
 }
 
 // Registers by use: values in 1 to 7, addresses in 8 to 15.
@@ -138,6 +143,7 @@ impl<'a> Builder<'a> {
             hot_page,
             wild,
             vectors,
+            overflows: false,
         }
     }
 
@@ -366,6 +372,7 @@ impl<'a> Builder<'a> {
             7..=10 => Some(self.rarest("effect")),
             11..=13 => Some(self.rng.pick(&[Op::Lw, Op::Lw, Op::Lw, Op::Lh, Op::Lbu, Op::Lb, Op::Lhu])),
             14..=16 => Some(self.rng.pick(&[Op::Sw, Op::Sh, Op::Sb, Op::Sw, Op::Sw])),
+            17 if self.overflows => Some(self.rng.pick(&SUMS)),
             17 => Some(self.rng.pick(&[Op::Addu, Op::Subu, Op::Addiu])),
             18 => Some(self.rng.pick(&[Op::Cas, Op::Cas, Op::Mfence, Op::Eret, Op::Movg2s, Op::Sysc])),
             _ if self.rng.chance(60) => None,
@@ -449,10 +456,10 @@ impl<'a> Builder<'a> {
                     rd = rs;
                 }
             }
-            Op::Addu | Op::Addiu | Op::Subu if self.rng.chance(70) => {
-                // Registers 5 to 7 mostly hold what overflows.
+            _ if SUMS[if self.overflows { 0 } else { 3 }..].contains(&op) && self.rng.chance(70) => {
+                // Registers 5 to 7 mostly hold what does not fit together.
                 rs = 5 + self.rng.below(2);
-                rt = if op == Op::Addiu { rt } else { 5 + self.rng.below(3) };
+                rt = if isa::compi(op) { rt } else { 5 + self.rng.below(3) };
                 imm = self.rng.pick(&[1, 0xFFFF, 0x7FFF, 0x8000]);
             }
             Op::Cas => {
@@ -548,7 +555,7 @@ impl<'a> Builder<'a> {
         } else if style == 8 {
             words.push(0b010000 << 26 | 0b00100 << 21 | 7 << 16 | 7 << 11); // movg2s mode r7
         }
-        let more = if style < 3 || style > 7 { self.rng.below(4) } else { 0 };
+        let more = if !(3..=7).contains(&style) { self.rng.below(4) } else { 0 };
         for _ in 0..more {
             let i = if self.wild {
                 self.instruction(b, false)
@@ -823,10 +830,14 @@ impl<'a> Builder<'a> {
     }
 }
 
-pub fn sound_machine(rng: &mut Rng, counts: &Counts) -> Machine {
+fn any_builder<'a>(rng: &'a mut Rng, counts: &'a Counts) -> Builder<'a> {
     let cores = 1 + rng.weighted(&[30, 35, 20, 15]);
     let pages = 1 + rng.weighted(&[34, 30, 20, 6, 3, 2, 2, 3]) as u32;
-    Builder::new(rng, counts, cores, pages).sound()
+    Builder::new(rng, counts, cores, pages)
+}
+
+pub fn sound_machine(rng: &mut Rng, counts: &Counts) -> Machine {
+    any_builder(rng, counts).sound()
 }
 
 // ---------------------------------------------------------------- schedules
@@ -1030,13 +1041,15 @@ fn schedule(rng: &mut Rng, counts: &mut Counts, machine: &Machine, length: usize
 }
 
 /// The steps file: sound machines with schedules, small machines where
-/// conditions cross, then damaged tables.
+/// conditions cross, small ones that add and subtract, then damaged tables.
 pub fn steps(seed: u32) -> Vec<Vector> {
     let mut rng = Rng::new(seed as u64);
     let mut counts = Counts::default();
     let mut vectors = Vec::new();
     for n in 0..LONG_VECTORS {
-        let machine = sound_machine(&mut rng, &counts);
+        let mut builder = any_builder(&mut rng, &counts);
+        builder.overflows = true;
+        let machine = builder.sound();
         let clean = n % 5 == 4;
         let length = rng.pick(&[24, 40, 56, 72, 88]);
         let schedule = schedule(&mut rng, &mut counts, &machine, length, clean);
@@ -1057,6 +1070,13 @@ pub fn steps(seed: u32) -> Vec<Vector> {
         let (machine, schedule) = crossed(&mut rng, &counts);
         let words = 6 * schedule.len() as u16;
         vectors.push(answer_steps(machine, &schedule, words, rng.below(4)));
+    }
+    for (op, cell) in Counts::expected_sums() {
+        while counts.get("sum", &cell) < SUMS_EACH {
+            let vector = sums_with(&mut rng, op, &cell);
+            counts.vector(&vector);
+            vectors.push(vector);
+        }
     }
     for (clause, _) in CLAUSES {
         let mut made = 0;
@@ -1103,7 +1123,7 @@ const WAITING: &[Op] = &[Op::Cas, Op::Cas, Op::Mfence];
 /// Meetings where two rules pull apart, and who shows it.
 const MEETINGS: [(&[Odd], &[Op]); 30] = [
     (&[LastWord], &[Op::J, Op::Jal]),
-    (&[LastWord], &[Op::J, Op::Jal, Op::Jalr, Op::Beq, Op::Bgez, Op::Addu, Op::Sysc]),
+    (&[LastWord], &[Op::J, Op::Jal, Op::Jalr, Op::Beq, Op::Bgez, Op::Add, Op::Addu, Op::Sysc]),
     (&[Misaligned, ApicPort], &[Op::Lh, Op::Lhu, Op::Sh, Op::Cas]),
     (&[Misaligned, IoapicPort], &[Op::Lh, Op::Lhu, Op::Sh, Op::Cas]),
     (&[Misaligned, ApicPort], WORDS),
@@ -1155,7 +1175,9 @@ fn crossed(rng: &mut Rng, counts: &Counts) -> (Machine, Vec<[u32; 6]>) {
             Op::Movg2s,
             Op::Movs2g,
             Op::Sysc,
+            Op::Add,
             Op::Addu,
+            Op::Sub,
             Op::Subu,
         ];
         odds.push(rng.pick(&ODDS));
@@ -1319,6 +1341,99 @@ fn crossed(rng: &mut Rng, counts: &Counts) -> (Machine, Vec<[u32; 6]>) {
         ]));
     }
     (b.machine(), schedule)
+}
+
+// ---------------------------------------------------------------- sums
+
+/// A vector of sums and differences in which one occurs.
+fn sums_with(rng: &mut Rng, op: Op, cell: &str) -> Vector {
+    for _ in 0..100_000 {
+        let (machine, schedule) = sums(rng, op);
+        let (words, length) = (6 * schedule.len() as u16, schedule.len() as u32);
+        let limit = rng.pick(&[length, 1024, length / 2]);
+        let vector = answer_steps(machine, &schedule, words, limit);
+        let mut tried = Counts::default();
+        tried.vector(&vector);
+        if tried.get("sum", cell) > 0 {
+            return vector;
+        }
+    }
+    panic!("{cell} does not occur");
+}
+
+/// A small machine of one core that adds and subtracts near the edges of 32
+/// bits, `first` first, then runs through its program. Events are there from
+/// the start or come by the lines; the handler just returns.
+fn sums(rng: &mut Rng, first: Op) -> (Machine, Vec<[u32; 6]>) {
+    const T: usize = 32; // block of core 0
+    #[rustfmt::skip]
+    const OTHERS: [Op; 18] = [
+        Op::Slt, Op::Slti, Op::Sltu, Op::Sltiu, Op::And, Op::Andi, Op::Or, Op::Ori, Op::Xor, Op::Xori, Op::Nor, Op::Lui,
+        Op::Sll, Op::Srl, Op::Sra, Op::Sllv, Op::Srlv, Op::Srav,
+    ];
+    let none = Counts::default();
+    let mut b = Builder::new(rng, &none, 1, 1);
+    b.t[T + MODE] = b.rng.below(2);
+    b.t[T + SR] = b.rng.pick(&[0x80, 0x82, 0x82, 0xFFFF_FFFF, 0, 0x02, 0xFFFF_FF7F]);
+    let walk = Walk::new(0, 0, 0, 7, 0); // page 0 is virtual page 0
+    b.hold(T, walk);
+    for _ in 0..b.rng.pick(&[0, 0, 1, 2]) {
+        let vector = b.vector();
+        b.t[T + IRR + vector as usize / 32] |= 1 << (vector % 32);
+    }
+    let lines = b.rng.below(4); // entries 0 to lines - 1 have something to deliver
+    for line in 0..lines {
+        let vector = b.vector();
+        b.t[REDIRECT + line as usize] = 1 << 12 | vector;
+    }
+
+    // Sum n takes registers 2n + 1 and 2n + 2.
+    b.put(0, 0x4200_0018); // eret
+    let start = 0x200;
+    let length = 3 + b.rng.below(6);
+    for n in 0..length {
+        let op = match n {
+            0 => first,
+            _ if b.rng.chance(80) => b.rng.pick(&SUMS),
+            _ => b.rng.pick(&OTHERS),
+        };
+        let mut imm = b.rng.pick(&[1, 2, 0x7FFF, 0x8000, 0xFFFF, 0xFFFE]);
+        if b.rng.chance(25) {
+            imm = b.rng.below(0x1_0000);
+        }
+        let right = if isa::compi(op) { isa::simm(imm) } else { b.rng.value() };
+        // The left operand makes the result one at an edge.
+        let result = b.rng.pick(&[0x7FFF_FFFE, 0x7FFF_FFFF, 0x8000_0000, 0x8000_0001, 0xFFFF_FFFF, 0, 1]);
+        let left = match op {
+            _ if b.rng.chance(25) => b.rng.value(),
+            Op::Sub | Op::Subu | Op::Slt | Op::Slti | Op::Sltu | Op::Sltiu => right.wrapping_add(result),
+            _ => u32::wrapping_sub(result, right),
+        };
+        let (rs, rt) = (2 * n + 1, 2 * n + 2);
+        b.t[T + rs as usize] = left;
+        b.t[T + rt as usize] = right;
+        let to = b.rng.pick(&[20 + n, 20 + n, 20 + n, 0, rs, rt]);
+        let rt = if isa::compi(op) { to } else { rt };
+        let i = b.assemble(isa::row(op), rs, rt, to, imm, 0);
+        b.put(start + 4 * n, i);
+    }
+    b.t[T + PC] = start;
+
+    // Through the program, and the lines one by one.
+    let machine = b.machine();
+    let (mut t, mut m) = (machine.tables.clone(), machine.memory.clone());
+    let mut schedule = Vec::new();
+    let mut line = 0;
+    while t[T + PC] != start + 4 * length {
+        let mut s = [0, 0, walk.first, walk.base, 0, 0];
+        if line < lines && rng.chance(40) {
+            s = [10, line, 0, 0, 0, 0];
+            line += 1;
+        }
+        assert!(step(true, &mut t, &mut m, &s).accepted());
+        schedule.push(s);
+    }
+    (machine, schedule)
 }
 
 // ---------------------------------------------------------------- damage

@@ -189,7 +189,7 @@ fn try_sides(rng: &mut Rng, condition: Option<Condition>, way: Option<Way>, kind
     let sides = sides(&board.t, &board.m, group);
     let fails = condition.map_or(Vec::new(), |c| vec![c]);
     let by = way.is_none_or(|way| sides.by(pages, condition.unwrap()).contains(&way));
-    (sides.fails == fails && by).then(|| Machine {
+    (sides.fails == fails && by).then_some(Machine {
         cores: cores as u8,
         pages: pages as u8,
         damage: 0,

@@ -160,8 +160,8 @@ pub fn decode(i: u32) -> Option<Op> {
         0b000011 => Jal,
         0b000100 => Beq,
         0b000101 => Bne,
-        0b000110 => if rt(i) == 0 { Blez } else { return None },
-        0b000111 => if rt(i) == 0 { Bgtz } else { return None },
+        0b000110 if rt(i) == 0 => Blez,
+        0b000111 if rt(i) == 0 => Bgtz,
         0b001000 => Addi, 0b001001 => Addiu, 0b001010 => Slti, 0b001011 => Sltiu,
         0b001100 => Andi, 0b001101 => Ori, 0b001110 => Xori, 0b001111 => Lui,
         0b010000 => match rs(i) {
@@ -234,21 +234,31 @@ pub fn rop_immediate(i: u32) -> u32 {
     }
 }
 
-/// The ALU table of 6.1.2: result and overflow. `itype` is its column i.
-pub fn alures(a: u32, b: u32, alucon: u32, itype: bool) -> (u32, bool) {
+/// The results of the ALU table of 6.1.2. `itype` is its column i. Its column
+/// ovf is not followed: see `overflows`.
+pub fn alures(a: u32, b: u32, alucon: u32, itype: bool) -> u32 {
     match alucon {
-        0b0000 => (a.wrapping_add(b), false),
-        0b0001 => (a.wrapping_add(b), (a as i32).overflowing_add(b as i32).1),
-        0b0010 => (a.wrapping_sub(b), false),
-        0b0011 => (a.wrapping_sub(b), (a as i32).overflowing_sub(b as i32).1),
-        0b0100 => (a & b, false),
-        0b0101 => (a | b, false),
-        0b0110 => (a ^ b, false),
-        0b0111 if !itype => (!(a | b), false),
-        0b0111 => (b << 16, false),
-        0b1010 => (((a as i32) < (b as i32)) as u32, false),
-        0b1011 => ((a < b) as u32, false),
+        0b0000 | 0b0001 => a.wrapping_add(b),
+        0b0010 | 0b0011 => a.wrapping_sub(b),
+        0b0100 => a & b,
+        0b0101 => a | b,
+        0b0110 => a ^ b,
+        0b0111 if !itype => !(a | b),
+        0b0111 => b << 16,
+        0b1010 => ((a as i32) < (b as i32)) as u32,
+        0b1011 => (a < b) as u32,
         _ => unreachable!("no row of tables 1 and 3 has these control bits"),
+    }
+}
+
+/// 02: add, addi and sub overflow, where the signed sum or difference of the
+/// operands is not a 32-bit number; addu, addiu and subu never do, nor does
+/// any other instruction.
+pub fn overflows(op: Op, a: u32, b: u32) -> bool {
+    match op {
+        Add | Addi => (a as i32).overflowing_add(b as i32).1,
+        Sub => (a as i32).overflowing_sub(b as i32).1,
+        _ => false,
     }
 }
 

@@ -900,7 +900,7 @@ fn core_step(t: &mut [u32], m: &mut [u8], k: usize, s: &[u32; 6]) -> Result<Opti
         let rtype = isa::compr(op);
         let a = t[b + GPR + isa::rs(i)];
         let right = if rtype { t[b + GPR + isa::rt(i)] } else { isa::rop_immediate(i) };
-        isa::alures(a, right, isa::alucon(i, rtype), !rtype)
+        (isa::alures(a, right, isa::alucon(i, rtype), !rtype), isa::overflows(op, a, right))
     } else {
         (0, false)
     };

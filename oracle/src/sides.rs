@@ -415,7 +415,7 @@ impl Side {
                 pcs.push(rng.below(board.pages()) << 12);
                 continue;
             };
-            let at = page << 12 | 0x400 + 0x100 * n;
+            let at = page << 12 | (0x400 + 0x100 * n);
             let mut words = Vec::new();
             while words.len() < 24 {
                 let i = instruction(rng, at, !self.writable.is_empty());
@@ -534,7 +534,7 @@ pub fn spoil(
             let page = rng.pick(if from_table { &tables } else { &side.writable });
             // Pointers to entries of low virtual pages.
             for x in 9..11 {
-                board.t[b + x] = page << 12 | 4 * rng.below(board.pages());
+                board.t[b + x] = page << 12 | (4 * rng.below(board.pages()));
             }
             let tabled = from_table && way.is_none_or(|way| way == writing);
             return (tabled || side.lead(rng, board, k, page, tabling, 7))

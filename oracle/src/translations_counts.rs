@@ -444,7 +444,8 @@ impl Facts {
             met_twice(std::cmp::Ordering::Greater),
             "an entry at both levels, second level by an earlier address",
         );
-        let pair = |what: fn(&[(u32, Option<u32>)], &[(u32, Option<u32>)]) -> bool| {
+        type Entries<'a> = &'a [(u32, Option<u32>)];
+        let pair = |what: fn(Entries, Entries) -> bool| {
             let long = || trails.iter().filter(|trail| trail.entries.len() == 2 && trail.entries[1].1.is_some());
             long().any(|a| long().any(|b| what(&a.entries, &b.entries)))
         };

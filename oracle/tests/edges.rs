@@ -91,43 +91,226 @@ fn rows_and_decode_agree() {
     }
 }
 
-#[test]
-fn sums_and_overflow() {
-    assert_eq!(alures(0x7FFF_FFFF, 1, 0b0001, false), (0x8000_0000, true));
-    assert_eq!(alures(0x7FFF_FFFF, 1, 0b0000, false), (0x8000_0000, false));
-    assert_eq!(alures(0xFFFF_FFFF, 1, 0b0001, false), (0, false));
-    assert_eq!(alures(0xFFFF_FFFF, 1, 0b0000, false), (0, false));
-    // Through the control bits of definition 28: addu, addiu, subu overflow;
-    // add, addi, sub don't.
-    for (i, overflows) in [
-        (rtype(Op::Add, 1, 2, 3), false),
-        (rtype(Op::Addu, 1, 2, 3), true),
-        (itype(Op::Addi, 1, 3, 1), false),
-        (itype(Op::Addiu, 1, 3, 1), true),
-    ] {
-        let mut m = M::new(1, 1);
-        *m.gpr(1) = 0x7FFF_FFFF;
-        *m.gpr(2) = 1;
-        m.t[B + SR] = 1 << 7;
-        let answer = m.exec(i);
-        assert_eq!(*m.gpr(3), 0x8000_0000);
-        if overflows {
-            assert_eq!(answer, Answer::Interrupt(7));
-            assert_eq!((m.t[B + EPC], m.t[B + ECA], m.t[B + ESR], m.t[B + SR]), (4, 1 << 7, 1 << 7, 0));
-            assert_eq!(m.t[B + PC], 0);
-        } else {
-            assert_eq!(answer, Answer::Done);
-            assert_eq!(m.t[B + PC], 4);
+/// The form with u of add, addi or sub.
+fn unsigned(op: Op) -> Op {
+    match op {
+        Op::Add => Op::Addu,
+        Op::Addi => Op::Addiu,
+        _ => Op::Subu,
+    }
+}
+
+/// An ALU instruction with these operands, result in register 3, about to be
+/// taken with this sr. An immediate is the low half of `right`.
+fn about_to(op: Op, left: u32, right: u32, sr: u32) -> (M, u32) {
+    let mut m = M::new(1, 1);
+    m.t[B + SR] = sr;
+    *m.gpr(1) = left;
+    *m.gpr(2) = if isa::compr(op) { right } else { 0x5555_5555 };
+    *m.gpr(3) = 0x7FFF_FFFF;
+    (m, if isa::compr(op) { rtype(op, 1, 2, 3) } else { itype(op, 1, 3, right) })
+}
+
+/// One sum or difference through whole steps: by add, addi or sub, and by the
+/// form with u; unmasked, masked, and with an external event.
+fn figure(op: Op, left: u32, right: u32, result: u32, overflows: bool) {
+    if !isa::compr(op) {
+        assert_eq!(isa::simm(right), right, "an immediate");
+    }
+    for (op, overflows) in [(op, overflows), (unsigned(op), false)] {
+        let what = format!("{op:?} {left:08X} {right:08X}");
+        for sr in [0, 1 << 7, 1 << 1, 1 << 7 | 1 << 1, !(1 << 7), u32::MAX] {
+            let raises = overflows && sr >> 7 & 1 == 1;
+            let (mut m, i) = about_to(op, left, right, sr);
+            m.t[B + ECA] = 0x1234;
+            assert_eq!(m.exec(i), if raises { Answer::Interrupt(7) } else { Answer::Done }, "{what} sr {sr:X}");
+            assert_eq!(*m.gpr(3), result, "{what}: continue, so the result is there");
+            let after = if raises { (0, 0, sr, 1 << 7, 4) } else { (4, sr, 0, 0x1234, 0) };
+            assert_eq!((m.t[B + PC], m.t[B + SR], m.t[B + ESR], m.t[B + ECA], m.t[B + EPC]), after, "{what}");
+            assert_eq!(m.t[B + EDATA], 0);
+
+            // An external event wins where sr lets it; both are told.
+            let (mut m, i) = about_to(op, left, right, sr);
+            m.t[B + IRR] = 1 << 9;
+            let event = sr >> 1 & 1 == 1;
+            let (answer, eca) = match (event, raises) {
+                (true, true) => (Answer::Interrupt(1), 0x82),
+                (true, false) => (Answer::Interrupt(1), 0x02),
+                (false, true) => (Answer::Interrupt(7), 0x80),
+                (false, false) => (Answer::Done, 0),
+            };
+            assert_eq!((m.exec(i), m.t[B + ECA]), (answer, eca), "{what} sr {sr:X}, event");
+            assert_eq!(*m.gpr(3), if event { 0x7FFF_FFFF } else { result });
+            assert_eq!(m.t[B + EPC], if !event && raises { 4 } else { 0 });
         }
     }
-    for (op, overflows) in [(Op::Sub, false), (Op::Subu, true)] {
-        let mut m = M::new(1, 1);
-        *m.gpr(1) = 0x8000_0000;
-        *m.gpr(2) = 1;
-        m.t[B + SR] = 1 << 7;
-        let answer = m.exec(rtype(op, 1, 2, 3));
-        assert_eq!(answer, if overflows { Answer::Interrupt(7) } else { Answer::Done });
-        assert_eq!(*m.gpr(3), 0x7FFF_FFFF);
+}
+
+#[test]
+fn sums_and_overflow() {
+    // The starred figures.
+    figure(Op::Add, 0x7FFF_FFFF, 1, 0x8000_0000, true);
+    figure(Op::Add, 0xFFFF_FFFF, 1, 0, false); // it carries, and fits
+
+    // Upward and downward, and just not.
+    figure(Op::Add, 1, 0x7FFF_FFFF, 0x8000_0000, true);
+    figure(Op::Add, 0x7FFF_FFFF, 0x7FFF_FFFF, 0xFFFF_FFFE, true);
+    figure(Op::Add, 0x4000_0000, 0x4000_0000, 0x8000_0000, true);
+    figure(Op::Add, 0x8000_0000, 0xFFFF_FFFF, 0x7FFF_FFFF, true);
+    figure(Op::Add, 0x8000_0000, 0x8000_0000, 0, true);
+    figure(Op::Add, 0xBFFF_FFFF, 0xC000_0000, 0x7FFF_FFFF, true);
+    figure(Op::Add, 0x7FFF_FFFE, 1, 0x7FFF_FFFF, false);
+    figure(Op::Add, 0x4000_0000, 0x3FFF_FFFF, 0x7FFF_FFFF, false);
+    figure(Op::Add, 0x8000_0001, 0xFFFF_FFFF, 0x8000_0000, false);
+    figure(Op::Add, 0xC000_0000, 0xC000_0000, 0x8000_0000, false);
+    figure(Op::Add, 0x7FFF_FFFF, 0x8000_0000, 0xFFFF_FFFF, false);
+    figure(Op::Add, 0x7FFF_FFFF, 0xFFFF_FFFF, 0x7FFF_FFFE, false); // it carries
+    figure(Op::Add, 0x8000_0000, 0x7FFF_FFFF, 0xFFFF_FFFF, false);
+    figure(Op::Add, 0x8000_0000, 1, 0x8000_0001, false);
+    figure(Op::Add, 0, 0, 0, false);
+    figure(Op::Sub, 0x7FFF_FFFF, 0xFFFF_FFFF, 0x8000_0000, true); // it borrows
+    figure(Op::Sub, 0, 0x8000_0000, 0x8000_0000, true); // it borrows
+    figure(Op::Sub, 0x7FFF_FFFF, 0x8000_0000, 0xFFFF_FFFF, true);
+    figure(Op::Sub, 0x8000_0000, 1, 0x7FFF_FFFF, true); // no borrow
+    figure(Op::Sub, 0x8000_0000, 0x7FFF_FFFF, 1, true); // no borrow
+    figure(Op::Sub, 0xFFFF_FFFE, 0x7FFF_FFFF, 0x7FFF_FFFF, true);
+    figure(Op::Sub, 0, 1, 0xFFFF_FFFF, false); // it borrows, and fits
+    figure(Op::Sub, 0x7FFF_FFFE, 0xFFFF_FFFF, 0x7FFF_FFFF, false);
+    figure(Op::Sub, 0x8000_0001, 1, 0x8000_0000, false);
+    figure(Op::Sub, 0xFFFF_FFFF, 0x7FFF_FFFF, 0x8000_0000, false);
+    figure(Op::Sub, 0xFFFF_FFFF, 0x8000_0000, 0x7FFF_FFFF, false);
+    figure(Op::Sub, 0x8000_0000, 0x8000_0000, 0, false);
+    figure(Op::Sub, 0x8000_0000, 0xFFFF_FFFF, 0x8000_0001, false); // it borrows
+    figure(Op::Sub, 0, 0x7FFF_FFFF, 0x8000_0001, false); // it borrows
+    figure(Op::Sub, 0x7FFF_FFFF, 1, 0x7FFF_FFFE, false);
+}
+
+/// The right operand is the immediate, extended by its sign.
+#[test]
+fn sums_with_an_immediate() {
+    let (most, least, minus_one) = (0x7FFF, 0xFFFF_8000, 0xFFFF_FFFF);
+    figure(Op::Addi, 0x7FFF_FFFF, 1, 0x8000_0000, true);
+    figure(Op::Addi, 0x7FFF_FFFE, 1, 0x7FFF_FFFF, false);
+    figure(Op::Addi, 0x7FFF_8000, most, 0x7FFF_FFFF, false);
+    figure(Op::Addi, 0x7FFF_8001, most, 0x8000_0000, true);
+    figure(Op::Addi, 0x7FFF_FFFF, most, 0x8000_7FFE, true);
+    figure(Op::Addi, 0x8000_0000, most, 0x8000_7FFF, false);
+    figure(Op::Addi, 0xFFFF_8001, most, 0, false); // it carries
+    figure(Op::Addi, 0x8000_8000, least, 0x8000_0000, false); // it carries
+    figure(Op::Addi, 0x8000_7FFF, least, 0x7FFF_FFFF, true);
+    figure(Op::Addi, 0x8000_0000, least, 0x7FFF_8000, true);
+    figure(Op::Addi, 0x7FFF_FFFF, least, 0x7FFF_7FFF, false); // by zeros it would not fit
+    figure(Op::Addi, 0, least, 0xFFFF_8000, false);
+    figure(Op::Addi, 0x8000_0001, minus_one, 0x8000_0000, false);
+    figure(Op::Addi, 0x8000_0000, minus_one, 0x7FFF_FFFF, true); // by zeros it would fit
+    figure(Op::Addi, 0x7FFF_FFFF, minus_one, 0x7FFF_FFFE, false);
+    figure(Op::Addi, 0xFFFF_FFFF, minus_one, 0xFFFF_FFFE, false);
+    figure(Op::Addi, 0, minus_one, 0xFFFF_FFFF, false);
+    figure(Op::Addi, 0x7FFF_FFFF, 0, 0x7FFF_FFFF, false);
+    figure(Op::Addi, 0x8000_0000, 0, 0x8000_0000, false);
+}
+
+/// All pairs of some numbers: add, addi and sub overflow where 64 bits hold
+/// another result than 32 do, and no other instruction raises cause 7.
+#[test]
+fn only_add_addi_and_sub_overflow() {
+    let numbers = [
+        0u32,
+        1,
+        0x7FFF,
+        0x8000,
+        0xFFFF,
+        0x3FFF_FFFF,
+        0x4000_0000,
+        0x7FFF_7FFF,
+        0x7FFF_8000,
+        0x7FFF_FFFE,
+        0x7FFF_FFFF,
+        0x8000_0000,
+        0x8000_0001,
+        0x8000_7FFF,
+        0x8000_8000,
+        0xBFFF_FFFF,
+        0xC000_0000,
+        0xFFFF_7FFF,
+        0xFFFF_8000,
+        0xFFFF_FFFE,
+        0xFFFF_FFFF,
+    ];
+    let mut raised = [0; 61];
+    for row in &ROWS {
+        // Those that access memory have other causes, and sysc its own.
+        if isa::load(row.op) || isa::store(row.op) || matches!(row.op, Op::Cas | Op::Sysc) {
+            continue;
+        }
+        for (left, right) in numbers.iter().flat_map(|&left| numbers.map(|right| (left, right))) {
+            let (mut m, mut i) = about_to(row.op, left, right, 1 << 7);
+            if !isa::alu(row.op) {
+                *m.gpr(2) = right;
+                let fields = row.fun.or(row.rs).is_some();
+                i = if fields { rtype(row.op, 1, 2, 3) } else { itype(row.op, 1, 2, right) };
+            }
+            let (x, y) = (left as i32 as i64, right as i32 as i64);
+            let exact = match row.op {
+                Op::Add => x + y,
+                Op::Addi => x + right as u16 as i16 as i64,
+                Op::Sub => x - y,
+                _ => 0,
+            };
+            let overflows = exact != exact as i32 as i64;
+            raised[row.op as usize] += overflows as u32;
+            let answer = m.exec(i);
+            assert_eq!(
+                answer,
+                if overflows { Answer::Interrupt(7) } else { Answer::Done },
+                "{i:08X} {left:X} {right:X}"
+            );
+        }
+    }
+    let who: Vec<Op> = ROWS.iter().map(|r| r.op).filter(|&op| raised[op as usize] > 20).collect();
+    assert_eq!(who, [Op::Addi, Op::Add, Op::Sub]);
+    assert_eq!(raised.iter().filter(|&&n| n > 0).count(), 3);
+}
+
+/// Overflow in user mode goes to the handler in system mode; register 0 stays
+/// zero and the interrupt comes all the same. An address sum never overflows.
+#[test]
+fn overflow_in_user_mode_and_into_register_0() {
+    let mut m = M::new(1, 1);
+    let w = m.user();
+    m.t[B + SR] = 1 << 7;
+    *m.gpr(1) = 0x8000_0000;
+    for (n, i) in [rtype(Op::Subu, 1, 1, 4), rtype(Op::Add, 1, 1, 0)].iter().enumerate() {
+        m.m[4 * n..4 * n + 4].copy_from_slice(&i.to_le_bytes());
+    }
+    let go = [0, 0, w.first, w.base, 0, 0];
+    assert_eq!((m.step(go), m.step(go)), (Answer::Done, Answer::Interrupt(7)));
+    assert_eq!((*m.gpr(0), m.t[B + EPC], m.t[B + ECA], m.t[B + MODE]), (0, 0x1008, 1 << 7, 0));
+
+    let mut m = M::new(1, 1);
+    let w = m.user();
+    let data = Walk::new(0x80000, 0, 0, 7, 0);
+    m.hold(data);
+    m.t[B + SR] = 1 << 7;
+    *m.gpr(1) = 0x7FFF_FFFC;
+    for (n, i) in [itype(Op::Lw, 1, 2, 4), itype(Op::Sw, 1, 2, 4)].iter().enumerate() {
+        m.m[4 * n..4 * n + 4].copy_from_slice(&i.to_le_bytes());
+    }
+    let go = [0, 0, w.first, w.base, data.first, data.base];
+    assert_eq!((m.step(go), m.step(go)), (Answer::Done, Answer::Done));
+    assert_eq!(*m.gpr(2), itype(Op::Lw, 1, 2, 4));
+}
+
+/// The results are those of the printed table, by the control bits.
+#[test]
+fn results_by_control_bits() {
+    for control in [0b0000, 0b0001] {
+        assert_eq!(alures(0x7FFF_FFFF, 1, control, false), 0x8000_0000);
+        assert_eq!(alures(0xFFFF_FFFF, 1, control, false), 0);
+    }
+    for control in [0b0010, 0b0011] {
+        assert_eq!(alures(0x8000_0000, 1, control, false), 0x7FFF_FFFF);
+        assert_eq!(alures(0, 1, control, false), 0xFFFF_FFFF);
     }
 }
 

@@ -132,7 +132,7 @@ fn low_bits_do_not_matter() {
         b.t[B + PTO] = 0x1000 | low;
         assert_eq!(one(&b, ADDRESS), (2, [0, 3, 5]));
     }
-    let all: Vec<u32> = (0..64).map(|low| 0x1234_5000 | 65 * low).collect();
+    let all: Vec<u32> = (0..64).map(|low| 0x1234_5000 | (65 * low)).collect();
     assert_eq!(ask(&b, 0, &all), (2, vec![[0, 3, 5]; 64]));
 }
 

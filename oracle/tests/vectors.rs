@@ -112,15 +112,15 @@ fn translations_are_as_the_file_says() {
     }
 }
 
-/// Each thing that can occur does so twenty times, and README.md has the
-/// tables that `oracle counts` prints.
+/// Each thing that can occur does so twenty times, sums and translations 24
+/// times, and README.md has the tables that `oracle counts` prints.
 #[test]
 fn counts() {
     let mut counts = Counts::default();
     vectors::read_steps(STEPS).unwrap().0.iter().for_each(|v| counts.vector(v));
     for (section, name) in Counts::expected() {
         let times = counts.get(section, &name);
-        assert!(times >= 20, "{section}: {name} occurs {times} times");
+        assert!(times >= if section == "sum" { 24 } else { 20 }, "{section}: {name} occurs {times} times");
     }
     assert_eq!(counts.get("answer", "interrupt 0") + counts.get("answer", "refused 10"), 0);
     assert_eq!(isa::ROWS.len(), 61);

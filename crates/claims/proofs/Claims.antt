@@ -2,9 +2,10 @@
 -- Assumes nothing.
 use Rattle.report.proofs.Refusals.{demand1}
 use Rattle.report.proofs.Joined.{demand2, unhindered}
+use Rattle.report.proofs.Rules.{exception}
 use Rattle.report.proofs.Made.{resets}
 use Rattle.separation.proofs.Separation.{separation}
 use Rattle.claims.specs.Claims.{Claims}
 
 pub claims : Claims
-claims = record { demand1 = demand1; demand2 = demand2; unhindered = unhindered; reset = resets; demand3 = separation }
+claims = record { demand1 = demand1; demand2 = demand2; exception = exception; unhindered = unhindered; reset = resets; demand3 = separation }

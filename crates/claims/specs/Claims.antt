@@ -3,7 +3,7 @@
 -- specs/Make: `refusal` and `madeOr`), step and run (machine, specs/Step: `step`, specs/Run: `run`, which is single steps one after the other), reach (reach,
 -- specs/Reach: `reachOn`) and apart (separation, specs/Apart: `apartOn`).
 -- Assumes nothing.
-use Rattle.report.specs.Demands.{Demand1, Demand2, Unhindered, Resets}
+use Rattle.report.specs.Demands.{Demand1, Demand2, Exception, Unhindered, Resets}
 use Rattle.separation.specs.Separation.{Demand3}
 
 pub record Claims : Type 0 where
@@ -12,8 +12,12 @@ pub record Claims : Type 0 where
   -- tables stay sound.
   pub demand1 : Demand1
   -- For sound tables and any bytes beyond memory: an accepted step does what the report's transition function does with it, and no more; every refusal
-  -- has its ground.
+  -- has its ground. One exception: an accepted core step on a word of add, addu, addi, addiu, sub or subu does the same but for cause 7, which is by the
+  -- trade's rule.
   pub demand2 : Demand2
+  -- How far that goes: what the printed table says in the trade's words, and that the step is the function's after all where the two rules agree on the
+  -- instruction, so where the signed sum or difference fits 32 bits, and where the status register masks overflow.
+  pub exception : Exception
   -- So a step that the function allows is accepted, or refused by a limit of ours, 7 to 10.
   pub unhindered : Unhindered
   -- A machine as made is sound, and in a configuration that the report allows after reset.

@@ -7,7 +7,7 @@ use lib.Dec.{T, eqb, ltb}
 use Rattle.word.proofs.Tests.{same, same-eq}
 use Rattle.decode.specs.declared.Instruction.{Instruction}
 use Rattle.decode.specs.Table.{table}
-use Rattle.decode.specs.Mnemonics.{number, itype, rtype, compi, compr, alu, mulacc, load, store, cas, mfence, flush, invlpg, eret, sysc, ill}
+use Rattle.decode.specs.Mnemonics.{number, itype, rtype, mulacc, load, store, cas, mfence, flush, invlpg, eret, sysc, ill}
 use Rattle.decode.proofs.Numbers.{everywhere, every}
 
 -- two predicates that agree on every row agree
@@ -45,10 +45,6 @@ itype-range = agree (λ (i : Instruction). ltb (number i) 22) itype tt
 pub rtype-range : (i : Instruction) → (ltb 23 (number i) && ltb (number i) 61) ≡ rtype i
 unfolding rtype
 rtype-range = agree (λ (i : Instruction). ltb 23 (number i) && ltb (number i) 61) rtype tt
-
-pub alu-range : (i : Instruction) → ((ltb 7 (number i) && ltb (number i) 16) || (ltb 35 (number i) && ltb (number i) 46)) ≡ alu i
-unfolding alu compi compr
-alu-range = agree (λ (i : Instruction). (ltb 7 (number i) && ltb (number i) 16) || (ltb 35 (number i) && ltb (number i) 46)) alu tt
 
 pub mulacc-range : (i : Instruction) → ((ltb 33 (number i) && ltb (number i) 36) || ((ltb 52 (number i) && ltb (number i) 58) && not (eqb (number i) 55))) ≡ mulacc i
 unfolding mulacc

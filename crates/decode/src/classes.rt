@@ -18,11 +18,7 @@ pub const LHU: u32 = 4;
 
 pub const SB: u32 = 5;
 
-pub const SW: u32 = 7;
-
 pub const ADDI: u32 = 8;
-
-pub const BLTZ: u32 = 16;
 
 pub const J: u32 = 22;
 
@@ -30,11 +26,9 @@ pub const JAL: u32 = 23;
 
 pub const MTLO: u32 = 33;
 
-pub const MULTU: u32 = 35;
-
 pub const ADD: u32 = 36;
 
-pub const JR: u32 = 46;
+pub const SUB: u32 = 38;
 
 pub const JALR: u32 = 47;
 
@@ -254,14 +248,6 @@ pub fn is_rtype(i: Instruction) -> bool
 {
     let n = number(i);
     (JAL < n) & (n < ILLEGAL)
-}
-
-// Definition 26: with an immediate, or with two registers.
-pub fn is_alu(i: Instruction) -> bool
-    ensures { λ r. ⌜ r ≡ m.alu i ⌝ }
-{
-    let n = number(i);
-    (SW < n) & (n < BLTZ) | (MULTU < n) & (n < JR)
 }
 
 // Definition 32: a multiplication that writes HI and LO.

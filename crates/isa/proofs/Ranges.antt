@@ -10,12 +10,14 @@ use Rattle.word.specs.Word.{if_then_else_, isSet, flag, sxt}
 use Rattle.word.proofs.Tests.{and-false, truth}
 use Rattle.decode.specs.declared.System.the-variants.{Cas}
 use Rattle.decode.specs.declared.Instruction.{Instruction}
-use Rattle.decode.specs.Mnemonics.{number, ill, alu, sysc, lw, lh, lhu, sh, sw, cas, movg2s, movs2g, eret, flush, invlpg}
+use Rattle.decode.specs.Mnemonics.{number, rtype, ill, sysc, lw, lh, lhu, sh, sw, cas, movg2s, movs2g, eret, flush, invlpg}
 use Rattle.decode.proofs.Numbers.{every}
-use Rattle.decode.proofs.Ranges.{agree, ill-number, sysc-number, alu-range}
+use Rattle.decode.proofs.Ranges.{agree, ill-number, sysc-number}
+use Rattle.units.specs.Overflow.{overflow}
+use Rattle.units.proofs.Overflows.{overflow-number}
 use Rattle.isa.specs.Core.{d, mal, lv}
 use Rattle.isa.specs.Interrupts.{privileged, mca}
-use Rattle.isa.specs.inner.Outcomes.{eaBy, ovfBy, eventsBy}
+use Rattle.isa.specs.inner.Outcomes.{ropBy, eaBy, ovfBy, eventsBy}
 
 pub privileged-range : (i : Instruction) → ((ltb 50 (number i) && ltb (number i) 53) || (ltb 57 (number i) && ltb (number i) 61)) ≡ privileged i
 unfolding privileged movg2s movs2g eret flush invlpg
@@ -67,9 +69,9 @@ mal-width i a = rw (words-width i, halves-width i)
 pub no-call : (i : Instruction) → number i < 48 → sysc i ≡ false
 no-call i h = sym (sysc-number i) ∙ ne-eqb (number i) 48 (λ p. omega arith)
 
--- a load or a store is no ALU instruction
-pub no-overflow : (i : Instruction) → number i < 8 → alu i ≡ false
-no-overflow i h = sym (alu-range i) ∙ rw (le-ltb 7 (number i) (omega arith), le-ltb 35 (number i) (omega arith)) refl
+-- no load or store overflows
+pub no-overflow : (i : Instruction) (a b : ℕ) → number i < 8 → overflow i a b ≡ false
+no-overflow i a b h = overflow-number i a b ∙ rw (ne-eqb (number i) 36 (λ p. omega arith), ne-eqb (number i) 8 (λ p. omega arith), ne-eqb (number i) 38 (λ p. omega arith)) refl
 
 -- any other accesses nothing
 pub no-access : (i : Instruction) (a : ℕ) → 7 < number i → number i < 48 → mal i a ≡ false
@@ -87,7 +89,7 @@ module _ (i : Instruction) (w p q : ℕ) (user io pfls : Bool) (status : ℕ) wh
   -- each addend under the name that its maker has
   pub access-causes : (x y z : ℕ) → number i < 8 → x ≡ flag (io && isSet status 1) → y ≡ flag pfls → z ≡ flag (mal i (eaBy i w p)) →
       x * 2 + y * 32 + z * 8 ≡ mca (eventsBy i w p q user io pfls) status
-  access-causes x y z h a b c = rw (few-causes (omega (arith, h)), no-overflow i h, a, b, c) (omega arith)
+  access-causes x y z h a b c = rw (few-causes (omega (arith, h)), no-overflow i p (ropBy (rtype i) w q) h, a, b, c) (omega arith)
 
   pub other-causes : (x y z : ℕ) → 7 < number i → number i < 48 → x ≡ flag (io && isSet status 1) → y ≡ flag pfls → z ≡ flag (ovfBy i w p q && isSet status 7) →
       x * 2 + y * 32 + z * 128 ≡ mca (eventsBy i w p q user io pfls) status

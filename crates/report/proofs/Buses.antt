@@ -80,7 +80,7 @@ module _ (t m : List ℕ) (e : sound t (length m) ≡ true) (k : ℕ) (h : k < c
       withIoapic (report.withProcessor (view t m M) k (withApic (processorOf b) (withEoipending (apicOf b) (upd (apicOf b .eoipending) v false)))) (δioapic (ioapicOf t) (ΣIoApic.eoi v))
 
   outcome₁ : (M : ℕ → ℕ) (f : Found) → pendingEoi b ≡ f → δx t m x₁ M ≡ (if isFound f then report.next (acked M (found f)) report.done else report.none)
-  unfolding report.δ report.sendEOI view processorOf
+  unfolding report.δBy report.sendEOI view processorOf
   outcome₁ M f q =
       ap (λ (y : Bool). if y then report.sendEOI (view t m M) k else report.none) (lt-ltb k n h)
       ∙ ap (λ (g : Found). if isFound g then report.next (acked M (found g)) report.done else report.none) (min-eoi (apicOf b) b (apic-refl (apicOf b)) ∙ q)
@@ -268,7 +268,7 @@ module _ (t m : List ℕ) (e : sound t (length m) ≡ true) (ws : Words t) (k : 
   typed d = eqb d 0b000 || eqb d 0b101 || eqb d 0b110
 
   outcome₂ : (M : ℕ → ℕ) → δx t m x₂ M ≡ (if isSet I 12 && isSet I 11 && typed (field 10 8 I) then report.next (ipi M I) report.done else report.none)
-  unfolding report.δ report.sendIPI report.informed view processorOf
+  unfolding report.δBy report.sendIPI report.informed view processorOf
   outcome₂ M =
       ap (λ (y : Bool). if y then report.sendIPI (view t m M) k else report.none) (lt-ltb k (coresOf t) h)
       ∙ ap (λ (z : ℕ). if isSet z 12 && isSet z 11 && typed (field 10 8 z) then report.next (ipi M z) report.done else report.none) (icr-is b₂ wb)

@@ -12,7 +12,7 @@ use Rattle.word.specs.Word.{if_then_else_}
 use Rattle.word.proofs.Tests.{true-false}
 use Rattle.layout.specs.Blocks.{block}
 use Rattle.decode.specs.Mnemonics.{store}
-use Rattle.isa.specs.Interrupts.{jisr, il}
+use Rattle.isa.specs.Interrupts.{ovfOf, jisr, il}
 use Rattle.records.specs.declared.Store.{Store}
 use Rattle.records.specs.declared.Walk.{Walk}
 use Rattle.tables.specs.Views.{coresOf, refusalsOf}
@@ -35,6 +35,7 @@ use Rattle.report.specs.Configuration.{Configuration, Processor, upd, wi
 use Rattle.report.specs.View.{processorOf, view}
 use Rattle.report.specs.Needs.{misses}
 use Rattle.report.specs.Demands.{Words, Bytes, Allowed, Next, Full, Adds, Crowded, Kept, Accepted, Ground}
+use Rattle.report.proofs.Rules.{store-not, does-same, claimed-trade, defined-none, defined-allowed}
 
 -- 0 for no step, 1 for a step that adds a walk, 2 for any other
 abbrev sort : Step → ℕ
@@ -63,9 +64,9 @@ adds-none t m x e M C = go (C .i) (C .w) (C .adds)
     go i w (Adds.extends j v q) = true-false (sym e ∙ ap (λ (y : Step). eqb (sort y) 2) q)
 
 module _ (t m : List ℕ) (x : Step) where
-  -- δ on the tables, with any bytes beyond memory
+  -- δ by the trade's rule on the tables, with any bytes beyond memory
   abbrev pub δx : (ℕ → ℕ) → report.Outcome
-  δx M = report.δ (view t m M) x
+  δx M = report.δBy ovfOf (view t m M) x
 
   abbrev pub Has : Type 0
   Has = (M : ℕ → ℕ) (y : ℕ) → misses (view t m M) x (length m) y ≡ false
@@ -89,25 +90,25 @@ module _ (t m : List ℕ) (x : Step) where
 
 -- ---- a store that takes effect is one more, so that eight were not pending if the tables after it are sound
 
-module _ (c : Configuration) (i : ℕ) (wI wR : Walk) (r : report.Answer) (to : Configuration) (d : report.does c i wI wR store ≡ true) where
-  one-more : report.δ c (kind.Core i wI wR) ≡ report.next to r → (i < to .np) × (length (to .p i .sb) ≡ length (c .p i .sb) + 1)
-  unfolding report.δ report.coreStep report.sb′
+module _ (c : Configuration) (i : ℕ) (wI wR : Walk) (r : report.Answer) (to : Configuration) (d : report.does c i wI wR ovfOf store ≡ true) where
+  one-more : report.δBy ovfOf c (kind.Core i wI wR) ≡ report.next to r → (i < to .np) × (length (to .p i .sb) ≡ length (c .p i .sb) + 1)
+  unfolding report.δBy report.coreStep report.sb′
   one-more q = go (ltb i (c .np)) refl (report.coreGuards c i wI wR) q
     where
       new : Processor
-      new = record { core = report.core′ c i wI wR; sb = report.sb′ c i wI wR; tlb = report.tlb′ c i wI wR; apic = report.apic′ c i wI wR }
+      new = record { core = report.core′ c i wI wR ovfOf; sb = report.sb′ c i wI wR ovfOf; tlb = report.tlb′ c i wI wR ovfOf; apic = report.apic′ c i wI wR ovfOf }
 
       there : Configuration
-      there = withM (report.withProcessor c i new) (report.m′ c i wI wR)
+      there = withM (report.withProcessor c i new) (report.m′ c i wI wR ovfOf)
 
       own : upd (c .p) i new i ≡ new
       own = ap (λ (b : Bool). if b then new else c .p i) (eq-eqb i i refl)
 
-      longer : (s : Store) → length (if report.does c i wI wR store then c .p i .sb ++ (s ∷ []) else c .p i .sb) ≡ length (c .p i .sb) + 1
+      longer : (s : Store) → length (if report.does c i wI wR ovfOf store then c .p i .sb ++ (s ∷ []) else c .p i .sb) ≡ length (c .p i .sb) + 1
       longer s = rw d (length-append (c .p i .sb) (s ∷ []))
 
       go : (b : Bool) → ltb i (c .np) ≡ b → (g : Bool) →
-          (if b then (if g then report.next there (if jisr (report.mca c i wI wR) then report.interrupt (il (report.mca c i wI wR)) else report.done) else report.none) else report.none) ≡ report.next to r →
+          (if b then (if g then report.next there (if jisr (report.mca c i wI wR ovfOf) then report.interrupt (il (report.mca c i wI wR ovfOf)) else report.done) else report.none) else report.none) ≡ report.next to r →
           (i < to .np) × (length (to .p i .sb) ≡ length (c .p i .sb) + 1)
       go true h true q =
           let z : there ≡ to = cc in (
@@ -118,11 +119,11 @@ module _ (c : Configuration) (i : ℕ) (wI wR : Walk) (r : report.Answer) (to : 
       go false h g q = absurd (let z : _≡_ {A = ℕ} 0 1 = cc in omega arith)
 
 module _ (t m : List ℕ) (x : Step) (M : ℕ → ℕ) (r : report.Answer) (u v : List ℕ) where
-  not-full : Next (report.δ (view t m M) x) r (view u v M) → sound u (length v) ≡ true → Full t m x M → ⊥
+  not-full : Next (report.δBy ovfOf (view t m M) x) r (view u v M) → sound u (length v) ≡ true → Full t m x M → ⊥
   unfolding view processorOf
   not-full N e F =
-      let q = ap (report.δ (view t m M)) (sym (F .is-core)) ∙ N .is-next in
-      let o = one-more (view t m M) (F .i) (F .wI) (F .wR) r (N .to) (F .is-store) q in
+      let q = ap (report.δBy ovfOf (view t m M)) (sym (F .is-core)) ∙ N .is-next in
+      let o = one-more (view t m M) (F .i) (F .wI) (F .wR) r (N .to) (sym (does-same (view t m M) (F .i) (F .wI) (F .wR) store store-not) ∙ F .is-store) q in
       let l : F .i < coresOf u = subst (λ (n : ℕ). F .i < n) (N .agrees .np) (o .0) in
       let few = block-few-stores (length v) (block u (F .i)) (core-sound u (length v) e (F .i) l) (core-long u (length v) e (F .i) l) in
       let same = ap length (N .agrees .p (F .i) (o .0) .sb) in
@@ -166,7 +167,7 @@ module _ (t m s : List ℕ) (e : sound t (length m) ≡ true) (ws : Words t) (bs
   accepted o I y p n =
       let next : (M : ℕ → ℕ) → Next (δx t m x M) o (view (r .tables) (r .memory) M)
       = λ M. subst (λ (u : List ℕ). Next (δx t m x M) o (view u (r .memory) M)) (I .1) (subst (λ (v : List ℕ). Next (δx t m x M) o (view (tablesAfter (decided t m s) t) v M)) (I .2) (n M)) in
-      record { next = next; kept = kept (I .1); present = p; not-full = λ M. not-full t m x M o (r .tables) (r .memory) (next M) after-sound; not-crowded = y }
+      record { next = λ M. subst (λ (z : report.Outcome). Next z o (view (r .tables) (r .memory) M)) (sym (claimed-trade (view t m M) x)) (next M); kept = kept (I .1); present = p; not-full = λ M. not-full t m x M o (r .tables) (r .memory) (next M) after-sound; not-crowded = y }
 
   abbrev Ok : Answer → Type 0
   Ok q = Ground t m s q
@@ -176,10 +177,10 @@ module _ (t m s : List ℕ) (e : sound t (length m) ≡ true) (ws : Words t) (bs
   ground (Case.interrupt level a y p n) =
       let I = on-sound (taken-interrupt t m s level (sym a)) in subst Ok (I .0) (Ground.interrupt level (accepted (report.interrupt level) I y p n))
   ground (Case.no-step a p) = subst Ok (on-sound (taken-refused t m s 5 (sym a)) .0) (Ground.no-step p)
-  ground (Case.undefined a p q) = subst Ok (on-sound (taken-refused t m s 6 (sym a)) .0) (Ground.undefined p q)
-  ground (Case.no-byte a y p M b d) = subst Ok (on-sound (taken-refused t m s 7 (sym a)) .0) (Ground.no-byte y p M b d)
-  ground (Case.no-store a h d q) = subst Ok (on-sound (taken-refused t m s 8 (sym a)) .0) (Ground.no-store h d q)
-  ground (Case.no-walk a h d q) = subst Ok (on-sound (taken-refused t m s 9 (sym a)) .0) (Ground.no-walk h d q)
+  ground (Case.undefined a p q) = subst Ok (on-sound (taken-refused t m s 6 (sym a)) .0) (Ground.undefined p (λ M. defined-none (view t m M) x (q M)))
+  ground (Case.no-byte a y p M b d) = subst Ok (on-sound (taken-refused t m s 7 (sym a)) .0) (Ground.no-byte y p M b (defined-allowed (view t m M) x d))
+  ground (Case.no-store a h d q) = subst Ok (on-sound (taken-refused t m s 8 (sym a)) .0) (Ground.no-store h (λ M. defined-allowed (view t m M) x (d M)) q)
+  ground (Case.no-walk a h d q) = subst Ok (on-sound (taken-refused t m s 9 (sym a)) .0) (Ground.no-walk h (λ M. defined-allowed (view t m M) x (d M)) q)
 
   -- by the step that they are found to say
   pub by-step : (y : Step) → stepOf (coresOf t) s ≡ y → Case t m y (byStep t m y) → Ok (r .answer)

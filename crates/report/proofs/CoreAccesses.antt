@@ -20,7 +20,7 @@ use Rattle.decode.specs.Fields.{rd, rt}
 use Rattle.decode.specs.Table.{decoded}
 use Rattle.decode.specs.Mnemonics.{load, store, cas, mfence, flush, invlpg}
 use Rattle.isa.specs.Core.{gprAt, ea, d, sv}
-use Rattle.isa.specs.Interrupts.{user}
+use Rattle.isa.specs.Interrupts.{ovfOf, user}
 use Rattle.records.specs.declared.Store.{Store}
 use Rattle.records.specs.declared.Walk.{Walk}
 use Rattle.records.specs.Records.{among, walks, stores}
@@ -61,6 +61,7 @@ use Rattle.report.specs.Needs.{misses}
 use Rattle.report.specs.Demands.{Words}
 use Rattle.report.proofs.Cases.{Case}
 use Rattle.report.proofs.Memory.{nothing, reads-bytes, memory-byte, memory-reads, one-missing, put-memory, seen-byte, unseen-byte, seen-there}
+use Rattle.report.proofs.Rules.{store-not, does-same}
 use Rattle.report.proofs.CoreFacts as facts
 use Rattle.report.proofs.CoreRefusals as guards
 use Rattle.report.proofs.CoreRefusals.{K, guarded, allow, is-word, at-address}
@@ -164,13 +165,13 @@ module _ (t m : List ℕ) (e : sound t (length m) ≡ true) (low : Words t) (i :
     guards-hold : (M : ℕ → ℕ) → guarded t m i h wI wR M ≡ true
     guards-hold M = holds t m e low i h wI wR w F (A .acc) (A .finds) (A .held) (A .clear) (A .entry) (A .ended) (A .free) (A .safe) M
 
-    does-as : (M : ℕ → ℕ) (p : Instruction → Bool) → report.does (c M) i wI wR p ≡ p x
+    does-as : (M : ℕ → ℕ) (p : Instruction → Bool) → report.does (c M) i wI wR ovfOf p ≡ p x
     does-as M p = does-is t m e low i h wI wR w F false none-faults M p ∙ (ap (λ (y : Bool). p x && not y) (A .runs) ∙ and-true (p x))
 
-    does-not : (M : ℕ → ℕ) (p : Instruction → Bool) → p x ≡ false → report.does (c M) i wI wR p ≡ false
+    does-not : (M : ℕ → ℕ) (p : Instruction → Bool) → p x ≡ false → report.does (c M) i wI wR ovfOf p ≡ false
     does-not M p q = does-as M p ∙ q
 
-    tlb-kept : (M : ℕ → ℕ) (y : Walk) → report.tlb′ (c M) i wI wR y ≡ among y (walks b)
+    tlb-kept : (M : ℕ → ℕ) (y : Walk) → report.tlb′ (c M) i wI wR ovfOf y ≡ among y (walks b)
     tlb-kept M = tlb-still t m i h wI wR M (does-not M flush (no-flush x (A .acc) .0)) (does-not M invlpg (no-flush x (A .acc) .1)) (no-pff′ t m e low i h wI wR w F M) (none-faults M)
 
     low-address : a < 2 ^ 32
@@ -258,7 +259,7 @@ module _ (t m : List ℕ) (e : sound t (length m) ≡ true) (low : Words t) (i :
       sbAt : Bool → ℕ → ℕ → List Store
       sbAt f n y = if f then stores b ++ (record { address = y; value = sv (decoded n) (v .core) n; width = d (decoded n) } ∷ []) else stores b
 
-      puts : (M : ℕ → ℕ) → report.sb′ (c M) i wI wR ≡ stores b ++ (new ∷ [])
+      puts : (M : ℕ → ℕ) → report.sb′ (c M) i wI wR ovfOf ≡ stores b ++ (new ∷ [])
       unfolding report.sb′ sbAt view processorOf
       puts M =
           ap (λ (f : Bool). sbAt f (report.I (c M) i wI wR) (report.pmaEA (c M) i wI wR)) (does-as M store ∙ st)
@@ -294,7 +295,7 @@ module _ (t m : List ℕ) (e : sound t (length m) ≡ true) (low : Words t) (i :
       unfolding misses view processorOf
       store-full p l =
           Case.no-store refl (store-has p) (λ M. allow t m i h wI wR M (guards-hold M))
-          (λ M. record { i = i; wI = wI; wR = wR; is-core = refl; is-store = does-as M store ∙ st; eight = omega (arith, block-few-stores (length m) b good long, leb-true 8 (length (stores b)) l) })
+          (λ M. record { i = i; wI = wI; wR = wR; is-core = refl; is-store = does-same (c M) i wI wR store store-not ∙ (does-as M store ∙ st); eight = omega (arith, block-few-stores (length m) b good long, leb-true 8 (length (stores b)) l) })
 
       is-free : leb 8 (length (v .sb)) ≡ false → v .free ≡ true
       is-free l = free-there b long (block-linked (length m) b good) (omega (arith, leb-false 8 (length (stores b)) l, block-few-walks (length m) b good long))
@@ -355,7 +356,7 @@ module _ (t m : List ℕ) (e : sound t (length m) ≡ true) (low : Words t) (i :
         kept-value : sv x (v .core) w ≡ gprAt (v .core) (rt w)
         kept-value = ap (λ (n : ℕ). gprAt (v .core) (rt w) % 2 ^ (8 * n)) wide ∙ mod-eq-of-lt (register-low t m e low i h wI wR (rt w) (omega arith))
 
-        swaps-as : (M : ℕ → ℕ) (y : ℕ) → report.m′ (c M) i wI wR y ≡ δm (memoryOf m M) (ΣM.swap (gprAt (v .core) (rd w)) a (sv x (v .core) w)) y
+        swaps-as : (M : ℕ → ℕ) (y : ℕ) → report.m′ (c M) i wI wR ovfOf y ≡ δm (memoryOf m M) (ΣM.swap (gprAt (v .core) (rd w)) a (sv x (v .core) w)) y
         unfolding report.m′ mAt view processorOf
         swaps-as M y =
             ap (λ (o : Bool). mAt M o (report.I (c M) i wI wR) (report.pmaEA (c M) i wI wR) y) (does-as M cas ∙ is-cas)
@@ -363,7 +364,7 @@ module _ (t m : List ℕ) (e : sound t (length m) ≡ true) (low : Words t) (i :
             ∙ (ap (λ (q : ℕ). mAt M true w q y) (at-address t m i h wI wR M w (F .fetched M))
             ∙ ap (λ (o : Bool). (if not o then δm (memoryOf m M) (ΣM.swap (gprAt (v .core) (rd w)) a (sv x (v .core) w)) else memoryOf m M) y) no-port))
 
-        memory-swapped : (M : ℕ → ℕ) (y : ℕ) → report.m′ (c M) i wI wR y ≡ memoryOf (writtenTo (swapped z) m) M y
+        memory-swapped : (M : ℕ → ℕ) (y : ℕ) → report.m′ (c M) i wI wR ovfOf y ≡ memoryOf (writtenTo (swapped z) m) M y
         unfolding δm writtenTo swapped
         memory-swapped M y =
             swaps-as M y

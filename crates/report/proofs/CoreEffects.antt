@@ -15,7 +15,7 @@ use Rattle.decode.specs.Table.{decoded}
 use Rattle.decode.specs.Mnemonics.{load, cas, eret}
 use Rattle.isa.specs.declared.registers.Registers.{Registers}
 use Rattle.isa.specs.Core.{sprAt, d, effect, deltaInstr}
-use Rattle.isa.specs.Interrupts.{mca, eventsAs, jisr, il, lowestBit, continues, edataOf, eaAt, sprJisr, deltaJisr, deltaRfe, deltaCore}
+use Rattle.isa.specs.Interrupts.{ovfOf, mca, eventsAs, jisr, il, lowestBit, continues, edataOf, eaAt, sprJisr, deltaJisr, deltaRfe, deltaCore}
 use Rattle.records.specs.declared.Walk.{Walk}
 use Rattle.records.specs.Records.{among, walks, stores}
 use Rattle.tables.specs.Views.{coresOf, registersOf}
@@ -159,17 +159,17 @@ module _ (t m : List ℕ) (i : ℕ) (h : i < coresOf t) (wI wR : Walk) where
 
   pub record Lands (M : ℕ → ℕ) (p : Plan) (q : report.Answer) : Type 0 where
     pub answer : answers t m i h wI wR M ≡ q
-    pub core : report.core′ (c M) i wI wR ≡ registersAfter (p .core) (registersOf b)
-    pub sb : report.sb′ (c M) i wI wR ≡ storesAfter (p .buffer) (stores b)
-    pub tlb : (w : Walk) → report.tlb′ (c M) i wI wR w ≡ among w (tlbAfter (p .walks) (walks b))
-    pub apic : report.apic′ (c M) i wI wR ≡ apicCore (p .core) (apicOf b)
-    pub memory : (y : ℕ) → y < 2 ^ 32 → report.m′ (c M) i wI wR y ≡ memoryOf (memoryByPlan p m) M y
+    pub core : report.core′ (c M) i wI wR ovfOf ≡ registersAfter (p .core) (registersOf b)
+    pub sb : report.sb′ (c M) i wI wR ovfOf ≡ storesAfter (p .buffer) (stores b)
+    pub tlb : (w : Walk) → report.tlb′ (c M) i wI wR ovfOf w ≡ among w (tlbAfter (p .walks) (walks b))
+    pub apic : report.apic′ (c M) i wI wR ovfOf ≡ apicCore (p .core) (apicOf b)
+    pub memory : (y : ℕ) → y < 2 ^ 32 → report.m′ (c M) i wI wR ovfOf y ≡ memoryOf (memoryByPlan p m) M y
 
   module _ (e : sound t (length m) ≡ true) (p : Plan) (D : MayBeDone (length m) b p) (q : quiet (p .write) ≡ true) where
     processor : (M : ℕ → ℕ) (r : report.Answer) → Lands M p r →
-        SameProcessor (record { core = report.core′ (c M) i wI wR; sb = report.sb′ (c M) i wI wR; tlb = report.tlb′ (c M) i wI wR; apic = report.apic′ (c M) i wI wR }) (processorOf (blockAfter p b))
+        SameProcessor (record { core = report.core′ (c M) i wI wR ovfOf; sb = report.sb′ (c M) i wI wR ovfOf; tlb = report.tlb′ (c M) i wI wR ovfOf; apic = report.apic′ (c M) i wI wR ovfOf }) (processorOf (blockAfter p b))
     processor M r L =
-        let S = plan-processor (length m) p b (core-long t (length m) e i h) (core-sound t (length m) e i h) (D .is-ready) (D .is-sound) (quiet-whole (p .write) q) (report.tlb′ (c M) i wI wR) (L .tlb) in
+        let S = plan-processor (length m) p b (core-long t (length m) e i h) (core-sound t (length m) e i h) (D .is-ready) (D .is-sound) (quiet-whole (p .write) q) (report.tlb′ (c M) i wI wR ovfOf) (L .tlb) in
         record {
           core = L .core ∙ S .core;
           sb = L .sb ∙ S .sb;
@@ -183,7 +183,7 @@ module _ (t m : List ℕ) (i : ℕ) (h : i < coresOf t) (wI wR : Walk) where
         record {
           to = nextOf t m i h wI wR M;
           is-next = next-is t m i h wI wR M g ∙ ap (report.next (nextOf t m i h wI wR M)) (L .answer);
-          agrees = plan-same t m i p e h D M _ (report.m′ (c M) i wI wR) (ioapicOf t) (processor M r L) (L .memory) (io-still t m i p e h D (quiet-io (p .write) q));
+          agrees = plan-same t m i p e h D M _ (report.m′ (c M) i wI wR ovfOf) (ioapicOf t) (processor M r L) (L .memory) (io-still t m i p e h D (quiet-io (p .write) q));
         }
 
   -- ---- the parts of a step with the masked causes ca
@@ -198,14 +198,14 @@ module _ (t m : List ℕ) (i : ℕ) (h : i < coresOf t) (wI wR : Walk) where
   abbrev pub R′ : (ℕ → ℕ) → ℕ
   R′ M = if report.is (c M) i wI wR load || report.is (c M) i wI wR cas then report.R (c M) i wI wR else 0
 
-  module _ (M : ℕ → ℕ) (ca : ℕ) (is-ca : report.mca (c M) i wI wR ≡ ca) where
+  module _ (M : ℕ → ℕ) (ca : ℕ) (is-ca : report.mca (c M) i wI wR ovfOf ≡ ca) where
     abbrev w′ : ℕ
     w′ = report.I (c M) i wI wR
 
     coreOf : Bool → ℕ → ℕ → Registers
     coreOf j n x = if j then deltaJisr (v .core) w′ (R′ M) n x else if eret (decoded w′) then deltaRfe (v .core) else deltaInstr (v .core) w′ (R′ M)
 
-    core-as : (j : Bool) → jisr ca ≡ j → report.core′ (c M) i wI wR ≡ coreOf j ca k
+    core-as : (j : Bool) → jisr ca ≡ j → report.core′ (c M) i wI wR ovfOf ≡ coreOf j ca k
     unfolding report.core′ deltaCore view processorOf coreOf
     core-as j e =
         ap (λ (n : ℕ). coreOf (jisr n) n (found (min (eev (apicOf b))))) is-ca
@@ -214,7 +214,7 @@ module _ (t m : List ℕ) (i : ℕ) (h : i < coresOf t) (wI wR : Walk) where
     apicTo : Bool → Bool → Apic
     apicTo j r = if j then δapic (apicOf b) ΣApic.jisr else if r then δapic (apicOf b) ΣApic.rfe else apicOf b
 
-    apic-as : (j : Bool) → jisr ca ≡ j → report.apic′ (c M) i wI wR ≡ apicTo j (report.is (c M) i wI wR eret)
+    apic-as : (j : Bool) → jisr ca ≡ j → report.apic′ (c M) i wI wR ovfOf ≡ apicTo j (report.is (c M) i wI wR eret)
     unfolding report.apic′ view processorOf apicTo
     apic-as j e = ap (λ (n : ℕ). apicTo (jisr n) (report.is (c M) i wI wR eret)) is-ca ∙ ap (λ (s : Bool). apicTo s (report.is (c M) i wI wR eret)) e
 
@@ -224,8 +224,8 @@ module _ (t m : List ℕ) (i : ℕ) (h : i < coresOf t) (wI wR : Walk) where
 
     -- an interrupt that stops the instruction
     pub stopped-lands : (w : ℕ) (ws : WalkChange) → suppressed ca ≡ true → deltaJisr (v .core) w′ (R′ M) ca k ≡ deltaJisr (v .core) w 0 ca k →
-        report.sb′ (c M) i wI wR ≡ stores b → ((y : Walk) → report.tlb′ (c M) i wI wR y ≡ among y (tlbAfter ws (walks b))) →
-        ((y : ℕ) → report.m′ (c M) i wI wR y ≡ memoryOf m M y) → Lands M (stopped v w ca ws) (report.interrupt (il ca))
+        report.sb′ (c M) i wI wR ovfOf ≡ stores b → ((y : Walk) → report.tlb′ (c M) i wI wR ovfOf y ≡ among y (tlbAfter ws (walks b))) →
+        ((y : ℕ) → report.m′ (c M) i wI wR ovfOf y ≡ memoryOf m M y) → Lands M (stopped v w ca ws) (report.interrupt (il ca))
     unfolding coreOf apicTo writtenTo
     stopped-lands w ws s d sb tlb mem =
         let j = is-interrupt ca s .0 in
@@ -233,12 +233,12 @@ module _ (t m : List ℕ) (i : ℕ) (h : i < coresOf t) (wI wR : Walk) where
 
     -- an instruction that takes effect, with an interrupt of continue type or none
     module _ (w R : ℕ) (is-w : w′ ≡ w) (is-eret : report.is (c M) i wI wR eret ≡ eret (decoded w)) (is-R : R′ M ≡ R) (bf : BufferChange) (ws : WalkChange) (wr : Write)
-        (sb : report.sb′ (c M) i wI wR ≡ storesAfter bf (stores b)) (tlb : (y : Walk) → report.tlb′ (c M) i wI wR y ≡ among y (tlbAfter ws (walks b)))
-        (mem : (y : ℕ) → y < 2 ^ 32 → report.m′ (c M) i wI wR y ≡ memoryOf (writtenTo wr m) M y) where
+        (sb : report.sb′ (c M) i wI wR ovfOf ≡ storesAfter bf (stores b)) (tlb : (y : Walk) → report.tlb′ (c M) i wI wR ovfOf y ≡ among y (tlbAfter ws (walks b)))
+        (mem : (y : ℕ) → y < 2 ^ 32 → report.m′ (c M) i wI wR ovfOf y ≡ memoryOf (writtenTo wr m) M y) where
       coreAt : Bool → ℕ → ℕ → Registers
       coreAt j n x = if j then deltaJisr (v .core) n x ca k else if eret (decoded n) then deltaRfe (v .core) else deltaInstr (v .core) n x
 
-      core-at : (j : Bool) → jisr ca ≡ j → report.core′ (c M) i wI wR ≡ coreAt j w R
+      core-at : (j : Bool) → jisr ca ≡ j → report.core′ (c M) i wI wR ovfOf ≡ coreAt j w R
       unfolding coreOf coreAt
       core-at j e = core-as j e ∙ (ap (λ (n : ℕ). coreAt j n (R′ M)) is-w ∙ ap (λ (x : ℕ). coreAt j w x) is-R)
 

@@ -14,7 +14,7 @@ use Rattle.decode.specs.declared.Instruction.{Instruction}
 use Rattle.decode.specs.Table.{decoded}
 use Rattle.decode.specs.Mnemonics.{load, store, cas}
 use Rattle.isa.specs.Core.{ea}
-use Rattle.isa.specs.Interrupts.{user, eventsAs, eventsWithout, causesOf, jisr, il, continues}
+use Rattle.isa.specs.Interrupts.{ovfOf, user, eventsAs, eventsWithout, causesOf, jisr, il, continues}
 use Rattle.records.specs.declared.Walk.{Walk}
 use Rattle.tlb.specs.declared.Request.{Request}
 use Rattle.tlb.specs.declared.Faulting.{Faulting}
@@ -132,22 +132,22 @@ module _ (t m : List ℕ) (i : ℕ) (wI wR : Walk) where
     unfolding report.I report.pmaI view processorOf
     word-is = refl
 
-    pub δ-is : i < coresOf t → report.δ c (Core i wI wR) ≡ report.coreStep c i wI wR
-    unfolding report.δ view
+    pub δ-is : i < coresOf t → report.δBy ovfOf c (Core i wI wR) ≡ report.coreStep c i wI wR ovfOf
+    unfolding report.δBy view
     δ-is h = rw (lt-ltb i (coresOf t) h)
 
     -- the masked causes, where f says that there is an instruction n
     mcaAt : Bool → ℕ → Bool → Bool → Bool → Bool → ℕ
     mcaAt f n io a p q = causesOf (v .core) (if f then eventsAs (decoded n) (v .core) n io p else eventsWithout io (not a) q)
 
-    mca-at : report.mca c i wI wR ≡ mcaAt (report.fetched c i wI wR) (report.I c i wI wR) (isEvent (event b)) al (report.pfls c i wI wR) (report.pff c i wI wR)
+    mca-at : report.mca c i wI wR ovfOf ≡ mcaAt (report.fetched c i wI wR) (report.I c i wI wR) (isEvent (event b)) al (report.pfls c i wI wR) (report.pff c i wI wR)
     unfolding report.events mcaAt view processorOf
     mca-at = ap (λ (io : Bool). mcaAt (report.fetched c i wI wR) (report.I c i wI wR) io al (report.pfls c i wI wR) (report.pff c i wI wR)) (event-is b)
 
     -- ---- without an instruction
 
     module _ (no-word : report.fetched c i wI wR ≡ false) where
-      pub does-nothing : (p : Instruction → Bool) → report.does c i wI wR p ≡ false
+      pub does-nothing : (p : Instruction → Bool) → report.does c i wI wR ovfOf p ≡ false
       unfolding report.does
       does-nothing p = off (report.is c i wI wR p) _ (off (report.fetched c i wI wR) _ no-word)
 
@@ -156,7 +156,7 @@ module _ (t m : List ℕ) (i : ℕ) (wI wR : Walk) where
           ap (λ (f : Bool). report.userᵢ c i && (f && store (decoded (report.I c i wI wR)) || f && load (decoded (report.I c i wI wR)) || f && cas (decoded (report.I c i wI wR)))) no-word
           ∙ and-false (report.userᵢ c i)
 
-      pub causes-without : (a q : Bool) → al ≡ a → report.pff c i wI wR ≡ q → report.mca c i wI wR ≡ causesWithout v (not a) q
+      pub causes-without : (a q : Bool) → al ≡ a → report.pff c i wI wR ≡ q → report.mca c i wI wR ovfOf ≡ causesWithout v (not a) q
       unfolding mcaAt
       causes-without a q e g =
           mca-at
@@ -200,16 +200,16 @@ module _ (t m : List ℕ) (i : ℕ) (wI wR : Walk) where
 
       -- the causes, where f says whether the access faults
       module _ (f : Bool) (faults : report.pfls c i wI wR ≡ f) where
-        pub causes-are : report.mca c i wI wR ≡ causes v x w f
+        pub causes-are : report.mca c i wI wR ovfOf ≡ causes v x w f
         unfolding mcaAt
         causes-are =
             mca-at
             ∙ (ap (λ (y : Bool). mcaAt y (report.I c i wI wR) (isEvent (event b)) al (report.pfls c i wI wR) (report.pff c i wI wR)) is-fetched
             ∙ (ap (λ (n : ℕ). mcaAt true n (isEvent (event b)) al (report.pfls c i wI wR) false) is-word ∙ ap (λ (y : Bool). mcaAt true w (isEvent (event b)) al y false) faults))
 
-        pub does-is : (p : Instruction → Bool) → report.does c i wI wR p ≡ (p x && not (suppressed (causes v x w f)))
+        pub does-is : (p : Instruction → Bool) → report.does c i wI wR ovfOf p ≡ (p x && not (suppressed (causes v x w f)))
         unfolding report.does
         does-is p =
-            ap (λ (t : Bool). t && (not (jisr (report.mca c i wI wR)) || continues (il (report.mca c i wI wR)))) (is-at p)
+            ap (λ (t : Bool). t && (not (jisr (report.mca c i wI wR ovfOf)) || continues (il (report.mca c i wI wR ovfOf)))) (is-at p)
             ∙ (ap (λ (ca : ℕ). p x && (not (jisr ca) || continues (il ca))) causes-are
             ∙ doing (p x) (jisr (causes v x w f)) (continues (il (causes v x w f))))

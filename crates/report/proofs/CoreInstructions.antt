@@ -15,7 +15,7 @@ use Rattle.decode.specs.Fields.{rs, rd}
 use Rattle.decode.specs.Table.{decoded}
 use Rattle.decode.specs.Mnemonics.{load, store, cas, flush, invlpg, eret}
 use Rattle.isa.specs.Core.{gprAt, ea}
-use Rattle.isa.specs.Interrupts.{user, jisr, il, deltaJisr}
+use Rattle.isa.specs.Interrupts.{ovfOf, user, jisr, il, deltaJisr}
 use Rattle.records.specs.declared.Walk.{Walk}
 use Rattle.records.specs.declared.Flush.the-variants.{All, Incomplete}
 use Rattle.records.specs.Records.{among, walks, stores}
@@ -102,19 +102,19 @@ module _ (t m : List ℕ) (e : sound t (length m) ≡ true) (low : Words t) (i :
       abbrev ca : ℕ
       ca = causes v x w f
 
-      is-ca : (M : ℕ → ℕ) → report.mca (c M) i wI wR ≡ ca
+      is-ca : (M : ℕ → ℕ) → report.mca (c M) i wI wR ovfOf ≡ ca
       is-ca M = facts.causes-are t m i wI wR M (F .fetched M .aligned) (no-pff t m i h wI wR M w (F .fetched M)) w (F .fetched M .read) f (faults M)
 
-      pub does-is : (M : ℕ → ℕ) (p : Instruction → Bool) → report.does (c M) i wI wR p ≡ (p x && not (suppressed ca))
+      pub does-is : (M : ℕ → ℕ) (p : Instruction → Bool) → report.does (c M) i wI wR ovfOf p ≡ (p x && not (suppressed ca))
       does-is M p = facts.does-is t m i wI wR M (F .fetched M .aligned) (no-pff t m i h wI wR M w (F .fetched M)) w (F .fetched M .read) f (faults M) p
 
       -- one that stops it
       module _ (s : suppressed ca ≡ true) where
-        none : (M : ℕ → ℕ) (p : Instruction → Bool) → report.does (c M) i wI wR p ≡ false
+        none : (M : ℕ → ℕ) (p : Instruction → Bool) → report.does (c M) i wI wR ovfOf p ≡ false
         none M p = does-is M p ∙ (ap (λ (y : Bool). p x && not y) s ∙ and-false (p x))
 
         stops : (ws : WalkChange) → MayBeDone (length m) b (stopped v w ca ws) → (isAccess x ≡ true → HasR t m i h wI wR w) → ((M : ℕ → ℕ) → guarded t m i h wI wR M ≡ true) →
-            ((M : ℕ → ℕ) (y : Walk) → report.tlb′ (c M) i wI wR y ≡ among y (tlbAfter ws (walks b))) → K t m i h wI wR (stopped v w ca ws)
+            ((M : ℕ → ℕ) (y : Walk) → report.tlb′ (c M) i wI wR ovfOf y ≡ among y (tlbAfter ws (walks b))) → K t m i h wI wR (stopped v w ca ws)
         stops ws D l g z =
             halts t m i h wI wR e w ca ws D g
             (λ M. has-fetched t m i h wI wR M w (F .fetched M) (F .entry) (F .within) l (λ y. idle₄ (c M) i wI wR (length m) y (none M load)) (λ y. idle₅ (c M) i wI wR (length m) y (none M store)) (λ y. idle₆ (c M) i wI wR (length m) y (none M cas)))
@@ -126,8 +126,8 @@ module _ (t m : List ℕ) (e : sound t (length m) ≡ true) (low : Words t) (i :
       -- one that does not, or none
       module _ (s : suppressed ca ≡ false) (R : ℕ) (is-R : (M : ℕ → ℕ) → R′ t m i h wI wR M ≡ R) (bf : BufferChange) (ws : WalkChange) (wr : Write)
           (D : MayBeDone (length m) b (finished x w R ca k bf ws wr)) (q : quiet wr ≡ true)
-          (sb : (M : ℕ → ℕ) → report.sb′ (c M) i wI wR ≡ storesAfter bf (stores b)) (tlb : (M : ℕ → ℕ) (y : Walk) → report.tlb′ (c M) i wI wR y ≡ among y (tlbAfter ws (walks b)))
-          (mem : (M : ℕ → ℕ) (y : ℕ) → y < 2 ^ 32 → report.m′ (c M) i wI wR y ≡ memoryOf (writtenTo wr m) M y) where
+          (sb : (M : ℕ → ℕ) → report.sb′ (c M) i wI wR ovfOf ≡ storesAfter bf (stores b)) (tlb : (M : ℕ → ℕ) (y : Walk) → report.tlb′ (c M) i wI wR ovfOf y ≡ among y (tlbAfter ws (walks b)))
+          (mem : (M : ℕ → ℕ) (y : ℕ) → y < 2 ^ 32 → report.m′ (c M) i wI wR ovfOf y ≡ memoryOf (writtenTo wr m) M y) where
         pub finish : ((M : ℕ → ℕ) → guarded t m i h wI wR M ≡ true) → ((M : ℕ → ℕ) → None t m i h wI wR M) → K t m i h wI wR (finished x w R ca k bf ws wr)
         unfolding finished
         finish g n = go (jisr ca) refl D
@@ -166,7 +166,7 @@ module _ (t m : List ℕ) (e : sound t (length m) ≡ true) (low : Words t) (i :
           (λ M. tlb-still t m i h wI wR M (none false no-pfls s M flush) (none false no-pfls s M invlpg) (no-pff′ M) (no-pfls M))
 
       module _ (s : suppressed ca₀ ≡ false) where
-        does-all : (M : ℕ → ℕ) (p : Instruction → Bool) → report.does (c M) i wI wR p ≡ p x
+        does-all : (M : ℕ → ℕ) (p : Instruction → Bool) → report.does (c M) i wI wR ovfOf p ≡ p x
         does-all M p = does-is false no-pfls M p ∙ (ap (λ (y : Bool). p x && not y) s ∙ and-true (p x))
 
         off-all : (load x ≡ false) × (store x ≡ false) × (cas x ≡ false)
@@ -180,11 +180,11 @@ module _ (t m : List ℕ) (e : sound t (length m) ≡ true) (low : Words t) (i :
             else if q then δtlb (report.tlbᵢ c i) (ΣTlb.flushPage (report.asidᵢ c i) (baseAddress (ea (decoded n) (v .core) n)))
             else report.tlbᵢ c i
 
-        dropped : (M : ℕ → ℕ) (y : Walk) → report.tlb′ (c M) i wI wR y ≡ among y (tlbAfter (droppedBy (v .core) x w) (walks b))
+        dropped : (M : ℕ → ℕ) (y : Walk) → report.tlb′ (c M) i wI wR ovfOf y ≡ among y (tlbAfter (droppedBy (v .core) x w) (walks b))
         unfolding report.tlb′ tlbAt view processorOf
         dropped M y =
             ap (λ (z : Walk → Bool). z y)
-            (ap (λ (o : Bool). tlbAt (c M) o (report.does (c M) i wI wR invlpg) (report.pff (c M) i wI wR) (report.pfls (c M) i wI wR) (report.I (c M) i wI wR)) (does-all M flush)
+            (ap (λ (o : Bool). tlbAt (c M) o (report.does (c M) i wI wR ovfOf invlpg) (report.pff (c M) i wI wR) (report.pfls (c M) i wI wR) (report.I (c M) i wI wR)) (does-all M flush)
             ∙ (ap (λ (o : Bool). tlbAt (c M) (flush x) o (report.pff (c M) i wI wR) (report.pfls (c M) i wI wR) (report.I (c M) i wI wR)) (does-all M invlpg)
             ∙ (ap (λ (o : Bool). tlbAt (c M) (flush x) (invlpg x) o (report.pfls (c M) i wI wR) (report.I (c M) i wI wR)) (no-pff′ M)
             ∙ (ap (λ (o : Bool). tlbAt (c M) (flush x) (invlpg x) false o (report.I (c M) i wI wR)) (no-pfls M)

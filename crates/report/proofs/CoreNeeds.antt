@@ -14,7 +14,7 @@ use Rattle.decode.specs.declared.Instruction.{Instruction}
 use Rattle.decode.specs.Table.{decoded}
 use Rattle.decode.specs.Mnemonics.{load, store, cas}
 use Rattle.isa.specs.Core.{ea, d}
-use Rattle.isa.specs.Interrupts.{user}
+use Rattle.isa.specs.Interrupts.{user, ovfOf}
 use Rattle.records.specs.declared.Walk.{Walk}
 use Rattle.records.specs.Contents.{there, allThere}
 use Rattle.tlb.specs.declared.Request.{Request}
@@ -28,6 +28,7 @@ use Rattle.report.specs.Components.{inside}
 use Rattle.report.specs.Delta as report
 use Rattle.report.specs.View.{view, processorOf}
 use Rattle.report.specs.Needs.{noByte, noPlace, coreMisses}
+use Rattle.report.proofs.Rules.{load-not, store-not, cas-not, does-same}
 use Rattle.report.proofs.Memory.{consulted, inside-from, inside-is, all-there-at}
 use Rattle.report.proofs.CoreGuards.{off}
 use Rattle.report.proofs.CoreFacts as facts
@@ -76,13 +77,13 @@ module _ (c : Configuration) (i : ℕ) (wI wR : Walk) (n y : ℕ) where
   N₃ = noByte n (report.usesR c i wI wR && not (complete wR) && hit (report.trqEA c i wI wR) wR && inside y (ptea wR) 4) y
 
   abbrev pub N₄ : Bool
-  N₄ = noPlace n (report.does c i wI wR load && not (sbhit (report.sbᵢ c i) y) && inside y (report.pmaEA c i wI wR) (report.dI c i wI wR)) y
+  N₄ = noPlace n (report.does c i wI wR report.byTable load && not (sbhit (report.sbᵢ c i) y) && inside y (report.pmaEA c i wI wR) (report.dI c i wI wR)) y
 
   abbrev pub N₅ : Bool
-  N₅ = noPlace n (report.does c i wI wR store && inside y (report.pmaEA c i wI wR) (report.dI c i wI wR)) y
+  N₅ = noPlace n (report.does c i wI wR report.byTable store && inside y (report.pmaEA c i wI wR) (report.dI c i wI wR)) y
 
   abbrev pub N₆ : Bool
-  N₆ = noByte n (report.does c i wI wR cas && inside y (report.pmaEA c i wI wR) 4) y
+  N₆ = noByte n (report.does c i wI wR report.byTable cas && inside y (report.pmaEA c i wI wR) 4) y
 
   abbrev pub missing : Bool
   missing = coreMisses c i wI wR n y
@@ -118,15 +119,15 @@ module _ (c : Configuration) (i : ℕ) (wI wR : Walk) (n y : ℕ) where
   missing₆ e = or-second (N₁ || N₂ || N₃ || N₄ || N₅) N₆ e
 
   -- what does not take effect needs nothing
-  pub idle₄ : report.does c i wI wR load ≡ false → N₄ ≡ false
-  idle₄ e = off (report.does c i wI wR load && not (sbhit (report.sbᵢ c i) y) && inside y (report.pmaEA c i wI wR) (report.dI c i wI wR)) _
-      (off (report.does c i wI wR load && not (sbhit (report.sbᵢ c i) y)) _ (off (report.does c i wI wR load) _ e))
+  pub idle₄ : report.does c i wI wR ovfOf load ≡ false → N₄ ≡ false
+  idle₄ e = off (report.does c i wI wR report.byTable load && not (sbhit (report.sbᵢ c i) y) && inside y (report.pmaEA c i wI wR) (report.dI c i wI wR)) _
+      (off (report.does c i wI wR report.byTable load && not (sbhit (report.sbᵢ c i) y)) _ (off (report.does c i wI wR report.byTable load) _ (does-same c i wI wR load load-not ∙ e)))
 
-  pub idle₅ : report.does c i wI wR store ≡ false → N₅ ≡ false
-  idle₅ e = off (report.does c i wI wR store && inside y (report.pmaEA c i wI wR) (report.dI c i wI wR)) _ (off (report.does c i wI wR store) _ e)
+  pub idle₅ : report.does c i wI wR ovfOf store ≡ false → N₅ ≡ false
+  idle₅ e = off (report.does c i wI wR report.byTable store && inside y (report.pmaEA c i wI wR) (report.dI c i wI wR)) _ (off (report.does c i wI wR report.byTable store) _ (does-same c i wI wR store store-not ∙ e))
 
-  pub idle₆ : report.does c i wI wR cas ≡ false → N₆ ≡ false
-  idle₆ e = off (report.does c i wI wR cas && inside y (report.pmaEA c i wI wR) 4) _ (off (report.does c i wI wR cas) _ e)
+  pub idle₆ : report.does c i wI wR ovfOf cas ≡ false → N₆ ≡ false
+  idle₆ e = off (report.does c i wI wR report.byTable cas && inside y (report.pmaEA c i wI wR) 4) _ (off (report.does c i wI wR report.byTable cas) _ (does-same c i wI wR cas cas-not ∙ e))
 
 -- ---- on tables and memory
 
@@ -246,38 +247,38 @@ module _ (t m : List ℕ) (i : ℕ) (h : i < coresOf t) (wI wR : Walk) where
 
       -- ---- a load, store or cas that takes effect
 
-      at₄ : (y : ℕ) → N₄ c i wI wR n y ≡ noPlace n (report.does c i wI wR load && not (sbhit (v .sb) y) && inside y a (d x)) y
+      at₄ : (y : ℕ) → N₄ c i wI wR n y ≡ noPlace n (report.does c i wI wR report.byTable load && not (sbhit (v .sb) y) && inside y a (d x)) y
       unfolding view processorOf
       at₄ y =
-          ap (λ (k : ℕ). noPlace n (report.does c i wI wR load && not (sbhit (v .sb) y) && inside y (report.pmaEA c i wI wR) (d (decoded k))) y) (is-word t m i h wI wR M w F)
-          ∙ ap (λ (z : ℕ). noPlace n (report.does c i wI wR load && not (sbhit (v .sb) y) && inside y z (d x)) y) (at-address t m i h wI wR M w F)
+          ap (λ (k : ℕ). noPlace n (report.does c i wI wR report.byTable load && not (sbhit (v .sb) y) && inside y (report.pmaEA c i wI wR) (d (decoded k))) y) (is-word t m i h wI wR M w F)
+          ∙ ap (λ (z : ℕ). noPlace n (report.does c i wI wR report.byTable load && not (sbhit (v .sb) y) && inside y z (d x)) y) (at-address t m i h wI wR M w F)
 
-      at₅ : (y : ℕ) → N₅ c i wI wR n y ≡ noPlace n (report.does c i wI wR store && inside y a (d x)) y
+      at₅ : (y : ℕ) → N₅ c i wI wR n y ≡ noPlace n (report.does c i wI wR report.byTable store && inside y a (d x)) y
       at₅ y =
-          ap (λ (k : ℕ). noPlace n (report.does c i wI wR store && inside y (report.pmaEA c i wI wR) (d (decoded k))) y) (is-word t m i h wI wR M w F)
-          ∙ ap (λ (z : ℕ). noPlace n (report.does c i wI wR store && inside y z (d x)) y) (at-address t m i h wI wR M w F)
+          ap (λ (k : ℕ). noPlace n (report.does c i wI wR report.byTable store && inside y (report.pmaEA c i wI wR) (d (decoded k))) y) (is-word t m i h wI wR M w F)
+          ∙ ap (λ (z : ℕ). noPlace n (report.does c i wI wR report.byTable store && inside y z (d x)) y) (at-address t m i h wI wR M w F)
 
-      at₆ : (y : ℕ) → N₆ c i wI wR n y ≡ noByte n (report.does c i wI wR cas && inside y a 4) y
-      at₆ y = ap (λ (z : ℕ). noByte n (report.does c i wI wR cas && inside y z 4) y) (at-address t m i h wI wR M w F)
+      at₆ : (y : ℕ) → N₆ c i wI wR n y ≡ noByte n (report.does c i wI wR report.byTable cas && inside y a 4) y
+      at₆ y = ap (λ (z : ℕ). noByte n (report.does c i wI wR report.byTable cas && inside y z 4) y) (at-address t m i h wI wR M w F)
 
       pub loads : ((y : ℕ) → a ≤ y → y < a + d x → (not (sbhit (v .sb) y) && not (there n y)) ≡ false) → (y : ℕ) → N₄ c i wI wR n y ≡ false
       loads f y =
           at₄ y
-          ∙ in-place n (report.does c i wI wR load && not (sbhit (v .sb) y)) y a (d x)
-          (λ p l k. not-not (there n y) (sym (ap (λ (z : Bool). z && not (there n y)) (and-right (report.does c i wI wR load) _ p)) ∙ f y l k))
+          ∙ in-place n (report.does c i wI wR report.byTable load && not (sbhit (v .sb) y)) y a (d x)
+          (λ p l k. not-not (there n y) (sym (ap (λ (z : Bool). z && not (there n y)) (and-right (report.does c i wI wR report.byTable load) _ p)) ∙ f y l k))
 
-      pub misses-load : (y : ℕ) → report.does c i wI wR load ≡ true → a ≤ y → y < a + d x → sbhit (v .sb) y ≡ false → there n y ≡ false → missing c i wI wR n y ≡ true
+      pub misses-load : (y : ℕ) → report.does c i wI wR ovfOf load ≡ true → a ≤ y → y < a + d x → sbhit (v .sb) y ≡ false → there n y ≡ false → missing c i wI wR n y ≡ true
       misses-load y e l k p q =
-          missing₄ c i wI wR n y (at₄ y ∙ out-of-place n (report.does c i wI wR load && not (sbhit (v .sb) y)) y a (d x) (and-both (report.does c i wI wR load) _ e (ap not p)) l k q)
+          missing₄ c i wI wR n y (at₄ y ∙ out-of-place n (report.does c i wI wR report.byTable load && not (sbhit (v .sb) y)) y a (d x) (and-both (report.does c i wI wR report.byTable load) _ (does-same c i wI wR load load-not ∙ e) (ap not p)) l k q)
 
       pub stored : allThere (d x) n a ≡ true → (y : ℕ) → N₅ c i wI wR n y ≡ false
-      stored e y = at₅ y ∙ in-place n (report.does c i wI wR store) y a (d x) (λ p l k. all-there-at (d x) n a y e l k)
+      stored e y = at₅ y ∙ in-place n (report.does c i wI wR report.byTable store) y a (d x) (λ p l k. all-there-at (d x) n a y e l k)
 
-      pub misses-store : (y : ℕ) → report.does c i wI wR store ≡ true → a ≤ y → y < a + d x → there n y ≡ false → missing c i wI wR n y ≡ true
-      misses-store y e l k q = missing₅ c i wI wR n y (at₅ y ∙ out-of-place n (report.does c i wI wR store) y a (d x) e l k q)
+      pub misses-store : (y : ℕ) → report.does c i wI wR ovfOf store ≡ true → a ≤ y → y < a + d x → there n y ≡ false → missing c i wI wR n y ≡ true
+      misses-store y e l k q = missing₅ c i wI wR n y (at₅ y ∙ out-of-place n (report.does c i wI wR report.byTable store) y a (d x) (does-same c i wI wR store store-not ∙ e) l k q)
 
       pub swaps : a + 4 ≤ n → (y : ℕ) → N₆ c i wI wR n y ≡ false
-      swaps l y = at₆ y ∙ in-memory n (report.does c i wI wR cas) y a 4 (λ p. l)
+      swaps l y = at₆ y ∙ in-memory n (report.does c i wI wR report.byTable cas) y a 4 (λ p. l)
 
-      pub misses-swap : (y : ℕ) → report.does c i wI wR cas ≡ true → a ≤ y → y < a + 4 → n ≤ y → missing c i wI wR n y ≡ true
-      misses-swap y e l k q = missing₆ c i wI wR n y (at₆ y ∙ out-of-memory n (report.does c i wI wR cas) y a 4 e l k q)
+      pub misses-swap : (y : ℕ) → report.does c i wI wR ovfOf cas ≡ true → a ≤ y → y < a + 4 → n ≤ y → missing c i wI wR n y ≡ true
+      misses-swap y e l k q = missing₆ c i wI wR n y (at₆ y ∙ out-of-memory n (report.does c i wI wR report.byTable cas) y a 4 (does-same c i wI wR cas cas-not ∙ e) l k q)

@@ -13,7 +13,7 @@ use Rattle.decode.specs.declared.Instruction.{Instruction}
 use Rattle.decode.specs.Table.{decoded}
 use Rattle.decode.specs.Mnemonics.{load, store, cas}
 use Rattle.isa.specs.Core.{ea, d}
-use Rattle.isa.specs.Interrupts.{user, jisr, il}
+use Rattle.isa.specs.Interrupts.{ovfOf, user, jisr, il}
 use Rattle.records.specs.declared.Walk.{Walk}
 use Rattle.records.specs.Records.{among}
 use Rattle.tlb.specs.Walks.{complete, hit}
@@ -127,11 +127,11 @@ module _ (t m : List ℕ) (i : ℕ) (h : i < coresOf t) (wI wR : Walk) where
   nextOf M =
       withM
       (report.withProcessor (view t m M) i
-      (record { core = report.core′ (view t m M) i wI wR; sb = report.sb′ (view t m M) i wI wR; tlb = report.tlb′ (view t m M) i wI wR; apic = report.apic′ (view t m M) i wI wR }))
-      (report.m′ (view t m M) i wI wR)
+      (record { core = report.core′ (view t m M) i wI wR ovfOf; sb = report.sb′ (view t m M) i wI wR ovfOf; tlb = report.tlb′ (view t m M) i wI wR ovfOf; apic = report.apic′ (view t m M) i wI wR ovfOf }))
+      (report.m′ (view t m M) i wI wR ovfOf)
 
   abbrev pub answers : (ℕ → ℕ) → report.Answer
-  answers M = if jisr (report.mca (view t m M) i wI wR) then report.interrupt (il (report.mca (view t m M) i wI wR)) else report.done
+  answers M = if jisr (report.mca (view t m M) i wI wR ovfOf) then report.interrupt (il (report.mca (view t m M) i wI wR ovfOf)) else report.done
 
   pub next-is : (M : ℕ → ℕ) → guarded M ≡ true → δx t m (Core i wI wR) M ≡ report.next (nextOf M) (answers M)
   unfolding report.coreStep

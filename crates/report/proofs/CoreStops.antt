@@ -15,7 +15,7 @@ use Rattle.layout.specs.Blocks.{block}
 use Rattle.decode.specs.declared.Instruction.{Instruction}
 use Rattle.decode.specs.Mnemonics.{store, cas, flush, invlpg}
 use Rattle.isa.specs.Core.{sprAt}
-use Rattle.isa.specs.Interrupts.{user, il}
+use Rattle.isa.specs.Interrupts.{ovfOf, user, il}
 use Rattle.records.specs.declared.Walk.{Walk}
 use Rattle.records.specs.Records.{among, walks, stores}
 use Rattle.tlb.specs.Walks.{hit, baseAddress, ptea}
@@ -62,15 +62,15 @@ module _ (t m : List ℕ) (i : ℕ) (h : i < coresOf t) (wI wR : Walk) where
 
   -- ---- nothing of the instruction takes effect
 
-  pub sb-still : (M : ℕ → ℕ) → report.does (c M) i wI wR store ≡ false → report.sb′ (c M) i wI wR ≡ stores b
+  pub sb-still : (M : ℕ → ℕ) → report.does (c M) i wI wR ovfOf store ≡ false → report.sb′ (c M) i wI wR ovfOf ≡ stores b
   unfolding report.sb′ view processorOf
   sb-still M p = rw p refl
 
-  pub memory-still : (M : ℕ → ℕ) → report.does (c M) i wI wR cas ≡ false → (y : ℕ) → report.m′ (c M) i wI wR y ≡ memoryOf m M y
+  pub memory-still : (M : ℕ → ℕ) → report.does (c M) i wI wR ovfOf cas ≡ false → (y : ℕ) → report.m′ (c M) i wI wR ovfOf y ≡ memoryOf m M y
   unfolding report.m′ view
   memory-still M p y = rw p refl
 
-  module _ (M : ℕ → ℕ) (no-flush : report.does (c M) i wI wR flush ≡ false) (no-invlpg : report.does (c M) i wI wR invlpg ≡ false) where
+  module _ (M : ℕ → ℕ) (no-flush : report.does (c M) i wI wR ovfOf flush ≡ false) (no-invlpg : report.does (c M) i wI wR ovfOf invlpg ≡ false) where
     -- the walks that go, by the page faults
     tlbBy : Bool → Bool → Walk → Bool
     tlbBy f g =
@@ -78,22 +78,22 @@ module _ (t m : List ℕ) (i : ℕ) (h : i < coresOf t) (wI wR : Walk) where
         else if g then δtlb (report.tlbᵢ (c M) i) (ΣTlb.flushPage (report.asidᵢ (c M) i) (baseAddress (report.EA (c M) i wI wR)))
         else report.tlbᵢ (c M) i
 
-    tlb-by : report.tlb′ (c M) i wI wR ≡ tlbBy (report.pff (c M) i wI wR) (report.pfls (c M) i wI wR)
+    tlb-by : report.tlb′ (c M) i wI wR ovfOf ≡ tlbBy (report.pff (c M) i wI wR) (report.pfls (c M) i wI wR)
     unfolding report.tlb′ tlbBy view processorOf
     tlb-by = rw (no-flush, no-invlpg) refl
 
-    pub tlb-still : report.pff (c M) i wI wR ≡ false → report.pfls (c M) i wI wR ≡ false → (y : Walk) → report.tlb′ (c M) i wI wR y ≡ among y (walks b)
+    pub tlb-still : report.pff (c M) i wI wR ≡ false → report.pfls (c M) i wI wR ≡ false → (y : Walk) → report.tlb′ (c M) i wI wR ovfOf y ≡ among y (walks b)
     unfolding tlbBy view processorOf
     tlb-still e f y = ap (λ (s : Walk → Bool). s y) (tlb-by ∙ (ap (λ (k : Bool). tlbBy k (report.pfls (c M) i wI wR)) e ∙ ap (λ (k : Bool). tlbBy false k) f))
 
-    pub tlb-fetch : report.pff (c M) i wI wR ≡ true → (y : Walk) → report.tlb′ (c M) i wI wR y ≡ among y (tlbAfter (faulted (v .core) (v .core .pc)) (walks b))
+    pub tlb-fetch : report.pff (c M) i wI wR ≡ true → (y : Walk) → report.tlb′ (c M) i wI wR ovfOf y ≡ among y (tlbAfter (faulted (v .core) (v .core .pc)) (walks b))
     unfolding tlbBy view processorOf
     tlb-fetch e y =
         ap (λ (s : Walk → Bool). s y) (tlb-by ∙ ap (λ (k : Bool). tlbBy k (report.pfls (c M) i wI wR)) e)
         ∙ page-flushed (baseAddress (v .core .pc)) (sprAt (v .core) at.asid % 2 ^ 6) (omega arith) (walks b) y
 
     pub tlb-data : report.pff (c M) i wI wR ≡ false → report.pfls (c M) i wI wR ≡ true → (a : ℕ) → report.EA (c M) i wI wR ≡ a →
-        (y : Walk) → report.tlb′ (c M) i wI wR y ≡ among y (tlbAfter (faulted (v .core) a) (walks b))
+        (y : Walk) → report.tlb′ (c M) i wI wR ovfOf y ≡ among y (tlbAfter (faulted (v .core) a) (walks b))
     unfolding tlbBy view processorOf
     tlb-data e f a g y =
         ap (λ (s : Walk → Bool). s y) (tlb-by ∙ (ap (λ (k : Bool). tlbBy k (report.pfls (c M) i wI wR)) e ∙ ap (λ (k : Bool). tlbBy false k) f))
@@ -124,15 +124,15 @@ module _ (t m : List ℕ) (i : ℕ) (h : i < coresOf t) (wI wR : Walk) where
   -- ---- without an instruction
 
   module _ (M : ℕ → ℕ) (no-word : report.fetched (c M) i wI wR ≡ false) where
-    nothing-done : (p : Instruction → Bool) → report.does (c M) i wI wR p ≡ false
+    nothing-done : (p : Instruction → Bool) → report.does (c M) i wI wR ovfOf p ≡ false
     nothing-done p = facts.does-nothing t m i wI wR M no-word p
 
     no-pfls : report.pfls (c M) i wI wR ≡ false
     unfolding report.pfls
     no-pfls = off (report.usesR (c M) i wI wR) _ (facts.uses-none t m i wI wR M no-word)
 
-    halts-without : (ca : ℕ) (ws : WalkChange) → report.mca (c M) i wI wR ≡ ca → (suppressed ca ≡ true) × (eqb (il ca) 5 ≡ false) →
-        ((y : Walk) → report.tlb′ (c M) i wI wR y ≡ among y (tlbAfter ws (walks b))) → Lands t m i h wI wR M (stopped v 0 ca ws) (report.interrupt (il ca))
+    halts-without : (ca : ℕ) (ws : WalkChange) → report.mca (c M) i wI wR ovfOf ≡ ca → (suppressed ca ≡ true) × (eqb (il ca) 5 ≡ false) →
+        ((y : Walk) → report.tlb′ (c M) i wI wR ovfOf y ≡ among y (tlbAfter ws (walks b))) → Lands t m i h wI wR M (stopped v 0 ca ws) (report.interrupt (il ca))
     halts-without ca ws p s f =
         stopped-lands t m i h wI wR M ca p 0 ws (s .0) (stops-without (v .core) (report.I (c M) i wI wR) (R′ t m i h wI wR M) ca (vectorOf (event b)) (is-interrupt ca (s .0) .1) (s .1))
         (sb-still M (nothing-done store)) f (memory-still M (nothing-done cas))

@@ -109,7 +109,7 @@ module _ (t m : List ℕ) (e : sound t (length m) ≡ true) (k : ℕ) (h : k < c
 
   outcome : (M : ℕ → ℕ) (l i z y : Bool) → localPort a ≡ l → ioPort a ≡ i → eqb (s .width) 4 ≡ z → writes (ioapicadr a) (s .value) ≡ y →
       δx t m x M ≡ (if (not (l || i) || z) && (not i || y) then report.next (left M l i) report.done else report.none)
-  unfolding report.δ report.sbStep report.leaves view processorOf
+  unfolding report.δBy report.sbStep report.leaves view processorOf
   outcome M l i z y p r f g = rw (lt-ltb k (coresOf t) h, q, p, r, f, g)
 
   -- the plan for the write w
@@ -204,7 +204,7 @@ module _ (t m : List ℕ) (e : sound t (length m) ≡ true) (k : ℕ) (h : k < c
 
 module _ (t m : List ℕ) (e : sound t (length m) ≡ true) (k : ℕ) (h : k < coresOf t) where
   pub buffer-case : Case t m (kind.StoreBuffer k) (byStep t m (kind.StoreBuffer k))
-  unfolding byStep onOldest all report.δ report.sbStep view processorOf
+  unfolding byStep onOldest all report.δBy report.sbStep view processorOf
   buffer-case = go (stores (block t k)) refl (block-stores (length m) (block t k) (core-sound t (length m) e k h)) (drain-plan (length m) (block t k) (core-sound t (length m) e k h))
     where
       go : (l : List Store) → stores (block t k) ≡ l → all (storeSound (length m)) l ≡ true → MayBeDone (length m) (block t k) (onOldest (length m) (oldest l)) →

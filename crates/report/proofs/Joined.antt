@@ -56,7 +56,7 @@ demand2 t m s e ws bs = go (stepOf (coresOf t) s) refl (step-formed (coresOf t) 
 -- ---- what δ allows is accepted, or refused 7 to 10
 
 pub unhindered : Unhindered
-unfolding report.δ
+unfolding report.δBy
 unhindered t m s e ws bs M A = go (demand2 t m s e ws bs)
   where
     never : {B : Type 0} → outcome t m (stepOf (coresOf t) s) M ≡ report.none → B

@@ -60,7 +60,7 @@ module _ (t m : List ℕ) (e : sound t (length m) ≡ true) (l v : ℕ) (h : l <
   lined M = withIrq (view t m M) (upd (isSet (linesOf t)) l (eqb v 1))
 
   outcome₁ : (M : ℕ → ℕ) → δx t m x₁ M ≡ report.next (lined M) report.done
-  unfolding report.δ report.setLine view
+  unfolding report.δBy report.setLine view
   outcome₁ M = rw (lt-ltb l 24 h)
 
   line-bit : (j : ℕ) → upd (isSet (linesOf t)) l (eqb v 1) j ≡ isSet (withBit (linesOf t) l v) j
@@ -100,7 +100,7 @@ module _ (t m : List ℕ) (e : sound t (length m) ≡ true) (l : ℕ) (h : l < 2
   sample M = withIoapic (view t m M) (with-entry (withBit (entry t l) ds 1))
 
   outcome₂ : (M : ℕ → ℕ) (g : Bool) → maySample t l ≡ g → δx t m x₂ M ≡ (if g then report.next (sample M) report.done else report.none)
-  unfolding report.δ report.sample view
+  unfolding report.δBy report.sample view
   outcome₂ M g q =
       let r : isSet (linesOf t) l && not (isSet (entry t l) 16) && not (isSet (entry t l) 14) ≡ g =
       ap₂ (λ (y z : Bool). isSet (linesOf t) l && y && z) (sym (zero-not-one (bit (entry t l) 16) (bit-lt (entry t l) 16))) (sym (zero-not-one (bit (entry t l) 14) (bit-lt (entry t l) 14))) ∙ q in
@@ -165,7 +165,7 @@ module _ (t m : List ℕ) (e : sound t (length m) ≡ true) (ws : Words t) (l : 
   delivers M z = withIoapic (withP (view t m M) (λ j. withApic (processorOf (block t j)) (given z j))) (with-entry t m e l h (withBit (withBit z ds 0) rirr 1))
 
   outcome₃ : (M : ℕ → ℕ) (g : Bool) → mayDeliver t l ≡ g → δx t m x₃ M ≡ (if g then report.next (delivers M en) report.done else report.none)
-  unfolding report.δ report.deliver report.delivered view processorOf
+  unfolding report.δBy report.deliver report.delivered view processorOf
   outcome₃ M g q =
       ap (λ (y : Bool). if y then report.deliver (view t m M) l else report.none) (lt-ltb l 24 h)
       ∙ ap (λ (z : ℕ). if isSet z ds then report.next (delivers M z) report.done else report.none) (redirect-at t l h)

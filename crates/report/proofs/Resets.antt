@@ -86,7 +86,7 @@ module _ (t m : List ℕ) (e : sound t (length m) ≡ true) (k : ℕ) (h : k < c
   inited M = report.reset (view t m M) k false 0 (set (set (report.cᵢ (view t m M) k .spr) at.mode 0) at.eca 0) (withInit (report.apicᵢ (view t m M) k) false)
 
   outcome₁ : (M : ℕ → ℕ) (g : Bool) → mayInit b ≡ g → δx t m x₁ M ≡ (if g then report.next (inited M) report.done else report.none)
-  unfolding report.δ report.initCore view processorOf apicOf
+  unfolding report.δBy report.initCore view processorOf apicOf
   outcome₁ M g q = rw (lt-ltb k (coresOf t) h, q)
 
   -- the words that initCore leaves
@@ -154,7 +154,7 @@ module _ (t m : List ℕ) (e : sound t (length m) ≡ true) (k : ℕ) (h : k < c
       report.reset (view t m M) k true (report.apicᵢ (view t m M) k .sipivect * 2 ^ 24) (report.cᵢ (view t m M) k .spr) (withSipi (report.apicᵢ (view t m M) k) false (report.apicᵢ (view t m M) k .sipivect))
 
   outcome₂ : (M : ℕ → ℕ) (g : Bool) → mayStart b ≡ g → δx t m x₂ M ≡ (if g then report.next (started M) report.done else report.none)
-  unfolding report.δ report.startCore view processorOf apicOf
+  unfolding report.δBy report.startCore view processorOf apicOf
   outcome₂ M g q =
       let W = words-facts b (words-of (length m) b (core-sound t (length m) e k h)) in
       let r : eqb (getD b at.sipirr 0) 1 && not (eqb (runningOf b) 1) ≡ g = ap (λ (z : Bool). eqb (getD b at.sipirr 0) 1 && z) (sym (zero-not-one (runningOf b) (omega (arith, W .running)))) ∙ q in

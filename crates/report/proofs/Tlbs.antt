@@ -149,7 +149,7 @@ module _ (t m : List ℕ) (e : sound t (length m) ≡ true) (ws : Words t) (k : 
   new-same M = ap (λ (o : ℕ). winit va (baseAddress o) (asidOf b₁)) (special-at b₁ at.pto (omega arith))
 
   outcome : (M : ℕ → ℕ) (g : Bool) → (userMode b₁ && runs b₁) ≡ g → δx t m (kind.TlbCreate k va) M ≡ (if g then report.next (added t m e k h new M) report.done else report.none)
-  unfolding report.δ report.tlbCreate view processorOf
+  unfolding report.δBy report.tlbCreate view processorOf
   outcome M g q = rw (lt-ltb k (coresOf t) h, q, special-at b₁ at.pto (omega arith))
 
   only : (M : ℕ → ℕ) (i : ℕ) (v : Walk) → Adds t m (kind.TlbCreate k va) M i v → (i ≡ k) × (v ≡ new)
@@ -244,7 +244,7 @@ module _ (t m : List ℕ) (e : sound t (length m) ≡ true) (bs : Bytes m) (k : 
   -- by the entry v
   outcome₂ : (M : ℕ → ℕ) (v : ℕ) → bytes 4 (memoryOf m M) (ptea w) ≡ v →
       δx t m x₂ M ≡ (if may-extend && extends v then report.next (added t m e k h (wext w v) M) report.done else report.none)
-  unfolding report.δ report.tlbExtend view processorOf extendable
+  unfolding report.δBy report.tlbExtend view processorOf extendable
   outcome₂ M v q =
       rw (lt-ltb k (coresOf t) h, q)
       (ap (λ (g : Bool). if g then report.next (added t m e k h (wext w v) M) report.done else report.none)
@@ -311,7 +311,7 @@ module _ (t m : List ℕ) (e : sound t (length m) ≡ true) (k : ℕ) (h : k < c
   marked M v = withM (view t m M) (δm (memoryOf m M) (ΣM.write (record { address = ptea w; value = set-d v; width = 4 })))
 
   outcome₃ : (M : ℕ → ℕ) (v : ℕ) → bytes 4 (memoryOf m M) (ptea w) ≡ v → δx t m x₃ M ≡ (if may-mark && pteP v then report.next (marked M v) report.done else report.none)
-  unfolding report.δ report.tlbAccessed view processorOf extendable
+  unfolding report.δBy report.tlbAccessed view processorOf extendable
   outcome₃ M v q =
       rw (lt-ltb k (coresOf t) h, q)
       (ap (λ (g : Bool). if g then report.next (marked M v) report.done else report.none)

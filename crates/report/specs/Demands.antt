@@ -1,10 +1,10 @@
--- What is demanded of step, as types: demand 1, the answers and what a refusal leaves; demand 2, an accepted step is one of the report's and a refusal
--- has its ground; and the configuration of a machine as made.
+-- What is demanded of step, as types: demand 1, the answers and what a refusal leaves; demand 2, an accepted step is one of the report's, with one exception,
+-- and a refusal has its ground; and the configuration of a machine as made.
 --
 -- To be believed are the report's side (Configuration, Components, Delta), the view, what a step needs (Needs), this file, and the definitions that these
 -- share with the machine:
--- of numbers and lists alone: words, bits and bytes, withBit among them (word); decoded and the mnemonics, user, asid, ea, d, sv, events, causes and deltaCore
--- (decode, units, isa); the fields of walks, addresses and entries, winit, wext, wextFault, set-d, complete, hit and ptea (tlb); sbhit, sbv, sbhazard, isPort,
+-- of numbers and lists alone: words, bits and bytes, withBit among them (word); decoded and the mnemonics, a table's lines, alucon, overflow, lop, rop, user, asid,
+-- ea, d, sv, signals, causes and deltaCore (decode, units, isa); the fields of walks, addresses and entries, winit, wext, wextFault, set-d, complete, hit and ptea (tlb); sbhit, sbv, sbhazard, isPort,
 -- apicadr and ioapicadr (store_buffer); least and someUpTo (apic); there, localPort, ioPort, among and same (records);
 -- of words: stepOf, the form of a step (steps); the views of words, sound and made (tables); stores and walks (records).
 -- That they are not empty is shown in claims: made tables are sound, and there are steps that are accepted and steps refused 5 to 9.
@@ -13,16 +13,23 @@
 -- they are as step itself defines them (machine, specs/Step), and the code is proved equal to that.
 -- Assumes nothing.
 use mathlib.Core.Path.{_≡_}
-use mathlib.Core.Bool.{Bool, true, false, _&&_}
-use mathlib.Core.List.{List, []}
+use mathlib.Core.Bool.{Bool, true, false, not, _&&_}
+use mathlib.Core.List.{List, [], _∷_}
 use Prim.Native.Nat.{ℕ, _+_, _-_, _*_, _^_, _<_, _≤_}
 use lib.Dec.{eqb, ltb, leb}
+use lib.IntN.{_+ℤ_, _-ℤ_}
 use lib.ListN.{length, getD}
-use Rattle.word.specs.Word.{if_then_else_, bit}
+use Rattle.word.specs.Word.{if_then_else_, bit, isSet, signed, within}
 use Rattle.layout.specs.Layout as at
 use Rattle.layout.specs.Blocks.{block}
-use Rattle.decode.specs.Mnemonics.{store}
-use Rattle.isa.specs.Core.{sprAt}
+use Rattle.decode.specs.declared.Immediate.the-variants.{Addi, Addiu}
+use Rattle.decode.specs.declared.Alu.the-variants.{Add, Addu, Sub, Subu}
+use Rattle.decode.specs.declared.Instruction.{Instruction}
+use Rattle.decode.specs.Table.{decoded}
+use Rattle.decode.specs.Mnemonics.{oneOf, rtype, store}
+use Rattle.isa.specs.declared.registers.Registers.{Registers}
+use Rattle.isa.specs.Core.{sprAt, lop, rop}
+use Rattle.isa.specs.Interrupts.{ovfOf}
 use Rattle.records.specs.declared.Walk.{Walk}
 use Rattle.records.specs.Records.{walks}
 use Rattle.tables.specs.Views.{coresOf, pagesOf, refusalsOf}
@@ -31,7 +38,7 @@ use Rattle.tables.specs.Make.{made}
 use Rattle.steps.specs.declared.Answer.{Answer}
 use Rattle.steps.specs.declared.Answer.the-variants.{Done, Interrupt, Refused}
 use Rattle.steps.specs.declared.Step.{Step}
-use Rattle.steps.specs.declared.Step.the-variants.{Core, TlbCreate, TlbExtend, NotAStep}
+use Rattle.steps.specs.declared.Step.the-variants.{Core, TlbCreate, TlbExtend, TlbAccessed, StoreBuffer, SendIpi, SendEoi, InitCore, StartCore, Sample, Deliver, SetLine, NotAStep}
 use Rattle.steps.specs.Form.{stepOf, lineCount}
 use Rattle.machine.specs.Step.{Stepped, step}
 use Rattle.report.specs.Configuration.{Configuration}
@@ -80,6 +87,50 @@ pub record Answered (t m s : List ℕ) : Type 0 where
 abbrev pub Demand1 : Type 0
 Demand1 = (t m s : List ℕ) → Answered t m s
 
+-- ---- the exception to demand 2 (docs/AGREEMENT.md, 1): overflow goes by the trade's rule in place of the table of 6.1.2
+
+-- it is not claimed for the words of these instructions
+abbrev pub excepted : Instruction → Bool
+excepted x =
+    oneOf x (Instruction.Alu Add ∷ Instruction.Alu Addu ∷ Instruction.Alu Sub ∷ Instruction.Alu Subu ∷ Instruction.Immediate Addi ∷ Instruction.Immediate Addiu ∷ [])
+
+-- a core step on one of them
+abbrev pub onExcepted : Configuration → Step → Bool
+onExcepted c (Core i wI wR) = report.is c i wI wR excepted
+onExcepted c (TlbCreate i va) = false
+onExcepted c (TlbExtend i w) = false
+onExcepted c (TlbAccessed i w) = false
+onExcepted c (StoreBuffer i) = false
+onExcepted c (SendIpi i) = false
+onExcepted c (SendEoi i) = false
+onExcepted c (InitCore i) = false
+onExcepted c (StartCore i) = false
+onExcepted c (Sample k) = false
+onExcepted c (Deliver k) = false
+onExcepted c (SetLine k level) = false
+onExcepted c NotAStep = false
+
+-- what is claimed: δ, and instead of it, where it is not claimed, the same step but for iev[7], which is the trade's
+unfoldable pub claimed : Configuration → Step → report.Outcome
+claimed c a = if onExcepted c a then report.δBy ovfOf c a else report.δ c a
+
+-- the printed table in the trade's words: addu, addiu and subu overflow; add, addi and sub never do, nor does any other instruction
+abbrev pub overflowPrinted : Instruction → ℕ → ℕ → Bool
+overflowPrinted x a b =
+    if oneOf x (Instruction.Alu Addu ∷ Instruction.Immediate Addiu ∷ []) then not (within 32 (signed 32 a +ℤ signed 32 b))
+    else if oneOf x (Instruction.Alu Subu ∷ []) then not (within 32 (signed 32 a -ℤ signed 32 b))
+    else false
+
+-- how far the exception goes
+pub record Exception : Type 0 where
+  -- the table comes to that, and so differs from the rule on those words alone, and there only where the signed sum or difference does not fit 32 bits
+  pub in-words : (c : Registers) (w : ℕ) → report.byTable (decoded w) c w ≡ overflowPrinted (decoded w) (lop c w) (rop (rtype (decoded w)) c w)
+  -- where it does not differ on the instruction, the claim is δ
+  pub agreeing : (c : Configuration) (i : ℕ) (wI wR : Walk) →
+      (let I = report.I c i wI wR in report.byTable (decoded I) (report.cᵢ c i) I ≡ ovfOf (decoded I) (report.cᵢ c i) I) → claimed c (Core i wI wR) ≡ report.δ c (Core i wI wR)
+  -- and so it is where the status register masks overflow
+  pub masked : (c : Configuration) (i : ℕ) (wI wR : Walk) → isSet (sprAt (report.cᵢ c i) at.sr) 7 ≡ false → claimed c (Core i wI wR) ≡ report.δ c (Core i wI wR)
+
 -- ---- demand 2: for sound tables
 
 -- δ has a next configuration; with that answer, and alike
@@ -108,7 +159,7 @@ module _ (t m : List ℕ) (a : Step) where
     pub wI : Walk
     pub wR : Walk
     pub is-core : a ≡ Core i wI wR
-    pub is-store : report.does (view t m M) i wI wR store ≡ true
+    pub is-store : report.does (view t m M) i wI wR report.byTable store ≡ true
     pub eight : length (view t m M .p i .sb) ≡ 8
 
   -- the walk w that the step adds to processor i
@@ -137,9 +188,10 @@ module _ (t m s : List ℕ) where
   abbrev pub a : Step
   a = stepOf (coresOf t) s
 
-  -- accepted with the answer r: δ gives it, and the view of what step leaves with the same bytes beyond memory; nothing that would refuse it is there
+  -- accepted with the answer r: δ gives it, but for the exception, and the view of what step leaves with the same bytes beyond memory; nothing that would
+  -- refuse it is there
   pub record Accepted (r : report.Answer) : Type 0 where
-    pub next : (M : ℕ → ℕ) → Next (outcome t m a M) r (view (step t m s .tables) (step t m s .memory) M)
+    pub next : (M : ℕ → ℕ) → Next (claimed (view t m M) a) r (view (step t m s .tables) (step t m s .memory) M)
     pub kept : Kept t m (step t m s .tables) (step t m s .memory)
     pub present : Present t m a
     pub not-full : (M : ℕ → ℕ) → Full t m a M → ⊥

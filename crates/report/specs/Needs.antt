@@ -14,7 +14,7 @@ use Rattle.steps.specs.declared.Step.{Step}
 use Rattle.steps.specs.declared.Step.the-variants.{Core, TlbCreate, TlbExtend, TlbAccessed, StoreBuffer, SendIpi, SendEoi, InitCore, StartCore, Sample, Deliver, SetLine, NotAStep}
 use Rattle.report.specs.Configuration.{Configuration}
 use Rattle.report.specs.Components.{inside}
-use Rattle.report.specs.Delta.{usesI, usesR, trqI, trqEA, fetched, pmaI, pmaEA, dI, does, sbᵢ}
+use Rattle.report.specs.Delta.{byTable, usesI, usesR, trqI, trqEA, fetched, pmaI, pmaEA, dI, does, sbᵢ}
 
 -- beside a memory of n bytes: x is to be in memory, where no port will do; in memory or a port
 abbrev pub noByte : ℕ → Bool → ℕ → Bool
@@ -29,9 +29,9 @@ coreMisses c i wI wR n x =
     noByte n (usesI c i wI wR && not (complete wI) && hit (trqI c i wI wR) wI && inside x (ptea wI) 4) x
     || noByte n (fetched c i wI wR && inside x (pmaI c i wI wR) 4) x
     || noByte n (usesR c i wI wR && not (complete wR) && hit (trqEA c i wI wR) wR && inside x (ptea wR) 4) x
-    || noPlace n (does c i wI wR load && not (sbhit (sbᵢ c i) x) && inside x (pmaEA c i wI wR) (dI c i wI wR)) x
-    || noPlace n (does c i wI wR store && inside x (pmaEA c i wI wR) (dI c i wI wR)) x
-    || noByte n (does c i wI wR cas && inside x (pmaEA c i wI wR) 4) x
+    || noPlace n (does c i wI wR byTable load && not (sbhit (sbᵢ c i) x) && inside x (pmaEA c i wI wR) (dI c i wI wR)) x
+    || noPlace n (does c i wI wR byTable store && inside x (pmaEA c i wI wR) (dI c i wI wR)) x
+    || noByte n (does c i wI wR byTable cas && inside x (pmaEA c i wI wR) 4) x
 
 -- the oldest store
 abbrev pub bufferMisses : List Store → ℕ → ℕ → Bool

@@ -1,14 +1,14 @@
 -- The starred figures at the edges: of each the value by the definitions, and the value that is printed.
 -- Assumes nothing.
 use mathlib.Core.Path.{_≡_, refl}
-use mathlib.Core.Bool.{false}
 use mathlib.Core.List.{List, [], _∷_, map}
 use Prim.Native.Nat.{ℕ, _+_, _*_, _^_}
 use lib.ListN.{getD, set, replicate}
 use Rattle.word.specs.Word.{flag, signed, sxt, withBit}
 use Rattle.decode.specs.Table.{decoded, rowOf}
 use Rattle.decode.specs.Mnemonics.{itype, rtype, compi, compr, alu, mulacc, b, jump, su, load, cas, jal, jalr, movg2s, movs2g, mfhi, mflo, mthi, mtlo, mul}
-use Rattle.units.specs.Alu.{alures, ovf, alucon}
+use Rattle.units.specs.Alu.{alures, alucon}
+use Rattle.units.specs.Overflow.{overflow}
 use Rattle.units.specs.Multiplication.{mures}
 use Rattle.units.specs.Branch.{bcres}
 use Rattle.tlb.specs.Walks.{walkOf}
@@ -20,6 +20,7 @@ use Rattle.apic.specs.LocalApic.{eoiWritten, portWritten}
 use Rattle.apic.specs.Figures.{isrAfterEoi}
 use Rattle.isa.specs.declared.registers.Registers.{Registers}
 use Rattle.isa.specs.Core.{deltaInstr, gprw, rdes, cad, gprdin}
+use Rattle.isa.specs.Interrupts.{ovfOf}
 
 pub record Figure : Type 0 where
   pub found : ℕ
@@ -36,6 +37,20 @@ core at x y h = record { gpr = set (set (set (replicate 32 0) 1 x) 2 y) 3 7; spr
 abbrev wordOf : ℕ → ℕ → ℕ → ℕ → ℕ
 wordOf o s t low = o * 2 ^ 26 + s * 2 ^ 21 + t * 2 ^ 16 + low
 
+-- add and addu, of registers 1 and 2 to register 3
+abbrev addWord : ℕ
+addWord = wordOf 0 1 2 (3 * 2 ^ 11 + 0b100000)
+
+abbrev adduWord : ℕ
+adduWord = wordOf 0 1 2 (3 * 2 ^ 11 + 0b100001)
+
+-- the sum of x and y by the instruction w, and whether it overflows
+abbrev sum : ℕ → ℕ → ℕ → ℕ
+sum x y w = getD (deltaInstr (core 0 x y 0) w 0 .gpr) 3 0
+
+abbrev overflowed : ℕ → ℕ → ℕ → ℕ
+overflowed x y w = flag (ovfOf (decoded w) (core 0 x y 0) w)
+
 -- general register 3 after an instruction
 abbrev result : ℕ → ℕ
 result w = getD (deltaInstr (core 0 0 0 0) w 0 .gpr) 3 0
@@ -46,16 +61,16 @@ multiplied h x y w = deltaInstr (core 0 x y h) w 0
 
 abbrev pub figures : List Figure
 figures =
-    -- 7FFFFFFF + 1 = 80000000; control 0001 overflows, 0000 doesn't
-    figure (alures 0x7fffffff 1 0b0001 false) 0x80000000 ∷
-    figure (flag (ovf 0x7fffffff 1 0b0001)) 1 ∷
-    figure (alures 0x7fffffff 1 0b0000 false) 0x80000000 ∷
-    figure (flag (ovf 0x7fffffff 1 0b0000)) 0 ∷
+    -- 7FFFFFFF + 1 = 80000000; add overflows, addu doesn't
+    figure (sum 0x7fffffff 1 addWord) 0x80000000 ∷
+    figure (overflowed 0x7fffffff 1 addWord) 1 ∷
+    figure (sum 0x7fffffff 1 adduWord) 0x80000000 ∷
+    figure (overflowed 0x7fffffff 1 adduWord) 0 ∷
     -- FFFFFFFF + 1 = 0, no overflow under either
-    figure (alures 0xffffffff 1 0b0001 false) 0 ∷
-    figure (flag (ovf 0xffffffff 1 0b0001)) 0 ∷
-    figure (alures 0xffffffff 1 0b0000 false) 0 ∷
-    figure (flag (ovf 0xffffffff 1 0b0000)) 0 ∷
+    figure (sum 0xffffffff 1 addWord) 0 ∷
+    figure (overflowed 0xffffffff 1 addWord) 0 ∷
+    figure (sum 0xffffffff 1 adduWord) 0 ∷
+    figure (overflowed 0xffffffff 1 adduWord) 0 ∷
     -- register 0, immediate FFFF: sltiu gives 1, slti 0
     figure (result (wordOf 0b001011 0 3 0xffff)) 1 ∷
     figure (result (wordOf 0b001010 0 3 0xffff)) 0 ∷
@@ -85,5 +100,5 @@ figures =
     []
 
 pub figures-hold : map (λ (f : Figure). f .found) figures ≡ map (λ (f : Figure). f .printed) figures
-unfolding deltaInstr decoded rowOf alures ovf alucon mures bcres signed sxt gprw rdes cad gprdin itype rtype compi compr alu mulacc b jump su load cas jal jalr movg2s movs2g mfhi mflo mthi mtlo mul sbehit sbhit newestFrom sbv some sbhazard msOf reads loaded walkOf portWritten eoiWritten least withVector withBit
+unfolding deltaInstr decoded rowOf alures overflow alucon mures bcres signed sxt gprw rdes cad gprdin itype rtype compi compr alu mulacc b jump su load cas jal jalr movg2s movs2g mfhi mflo mthi mtlo mul sbehit sbhit newestFrom sbv some sbhazard msOf reads loaded walkOf portWritten eoiWritten least withVector withBit
 figures-hold = refl

@@ -1,13 +1,13 @@
--- The ALU (6.1.2): its table as printed, and the control bits of definition 28.
+-- The ALU (6.1.2): the results of its table as printed, and the control bits of definition 28. Its overflow column stands where δ does (report), since the machine
+-- goes by Overflow.
 -- Assumes nothing.
-use mathlib.Core.Bool.{Bool, false, not, _&&_, _||_}
+use mathlib.Core.Bool.{Bool, not, _&&_, _||_}
 use mathlib.Core.List.{List, [], _∷_}
 use Prim.Native.Nat.{ℕ, _+_, _-_, _*_, _%_, _^_}
 use lib.Dec.{ltb}
-use lib.IntN.{_+ℤ_, _-ℤ_}
 use lib.Signed.{ltZ}
 use lib.Bits.{bitAnd, bitOr, bitXor}
-use Rattle.word.specs.Word.{if_then_else_, field, isSet, signed, plus, minus, within}
+use Rattle.word.specs.Word.{if_then_else_, field, isSet, signed, plus, minus}
 use Rattle.units.specs.Control.{Line, line, choose}
 
 -- the result column at the operands a and b; i says that the instruction is of I-type
@@ -25,18 +25,8 @@ results a b i =
     line 0b1011 (if ltb a b then 1 else 0) ∷
     []
 
--- the overflow column; the lines that it leaves out are 0
-abbrev pub overflows : ℕ → ℕ → List (Line Bool)
-overflows a b =
-    line 0b0001 (not (within 32 (signed 32 a +ℤ signed 32 b))) ∷
-    line 0b0011 (not (within 32 (signed 32 a -ℤ signed 32 b))) ∷
-    []
-
 unfoldable pub alures : ℕ → ℕ → ℕ → Bool → ℕ
 alures a b alucon i = choose 0 (results a b i) alucon
-
-unfoldable pub ovf : ℕ → ℕ → ℕ → Bool
-ovf a b alucon = choose false (overflows a b) alucon
 
 -- definition 28; r says that the instruction is of R-type
 abbrev pub conLow : Bool → ℕ → ℕ

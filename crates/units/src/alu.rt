@@ -1,7 +1,10 @@
-// The ALU, by its control bits.
+// The ALU: its result by the control bits, overflow by the instruction.
+use decode::Instruction;
+use decode::classes;
 ghost use mathlib.Core.Path.{_≡_};
 ghost use Prim.Native.Nat.{_<_, _^_};
-ghost use Rattle.units.specs.Alu.{alures, ovf, alucon, conLow, conHigh};
+ghost use Rattle.units.specs.Alu.{alures, alucon, conLow, conHigh};
+ghost use Rattle.units.specs.Overflow as s;
 
 fn control_low(rtype: bool, w: u32) -> u32
     ensures { λ r. ⌜ (r ≡ conLow rtype w) × (r < 8) ⌝ }
@@ -50,12 +53,15 @@ pub fn result(a: u32, b: u32, con: u32, itype: bool) -> u32
     }
 }
 
-pub fn overflow(a: u32, b: u32, con: u32) -> bool
-    ensures { λ r. ⌜ r ≡ ovf a b con ⌝ }
+pub fn overflow(i: Instruction, a: u32, b: u32) -> bool
+    ensures { λ r. ⌜ r ≡ s.overflow i a b ⌝ }
 {
-    match con {
-        0b0001 => word::sum_overflows(a, b),
-        0b0011 => word::difference_overflows(a, b),
-        _ => false,
+    let n = classes::number(i);
+    if (n == classes::ADD) | (n == classes::ADDI) {
+        return word::sum_overflows(a, b);
     }
+    if n == classes::SUB {
+        return word::difference_overflows(a, b);
+    }
+    false
 }

@@ -14,8 +14,9 @@ use Rattle.decode.specs.declared.System.the-variants.{Cas}
 use Rattle.decode.specs.declared.Instruction.{Instruction}
 use Rattle.decode.specs.declared.Instruction.the-variants.{Illegal}
 use Rattle.decode.specs.Fields.{rs, rt, rd, sa, imm, iindex}
-use Rattle.decode.specs.Mnemonics.{itype, rtype, alu, mulacc, cas, ill, sysc}
-use Rattle.units.specs.Alu.{alures, ovf, alucon}
+use Rattle.decode.specs.Mnemonics.{itype, rtype, mulacc, cas, ill, sysc}
+use Rattle.units.specs.Alu.{alures, alucon}
+use Rattle.units.specs.Overflow.{overflow}
 use Rattle.units.specs.Multiplication.{mures, mulcon}
 use Rattle.units.specs.Branch.{bcres, bcon}
 use Rattle.units.specs.Shift.{sures, sf}
@@ -135,9 +136,9 @@ outcomeBy Illegal w o R = passed o
 abbrev pub eaBy : Instruction → ℕ → ℕ → ℕ
 eaBy i w p = if itype i then plus 32 p (sxt 16 (imm w)) else p
 
--- 6.3, iev[7]
+-- iev[7] by the trade's rule
 abbrev pub ovfBy : Instruction → ℕ → ℕ → ℕ → Bool
-ovfBy i w p q = alu i && ovf p (ropBy (rtype i) w q) (alucon (rtype i) w)
+ovfBy i w p q = overflow i p (ropBy (rtype i) w q)
 
 -- 6.3: the event signals, in user mode or not
 abbrev pub eventsBy : Instruction → ℕ → ℕ → ℕ → Bool → Bool → Bool → Events

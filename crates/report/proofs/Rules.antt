@@ -1,0 +1,350 @@
+-- The two rules of overflow, the table's and the trade's: where they part; that a step is defined by both or by neither; and that it is the same by both where its
+-- masked causes are.
+-- Assumes nothing.
+use mathlib.Core.Path.{_≡_, refl, sym, _∙_, ap, subst}
+use mathlib.Core.Bool.{Bool, true, false, not, _&&_, _||_}
+use mathlib.Core.List.{List, [], _∷_}
+use Prim.Native.Nat.{ℕ, _+_, _-_, _/_, _%_, _^_}
+use native.Mathlib.Nat.{div-div-eq-div-mul}
+use native.Mathlib.Omega.{arith}
+use lib.Dec.{T, eqb, ltb}
+use borrow.Author.Tests.{eqb-true}
+use Rattle.word.specs.Word.{if_then_else_, field, isSet}
+use Rattle.word.proofs.Tests.{same, truth, and-left, and-right, and-false}
+use Rattle.word.proofs.Truth as truths
+use Rattle.layout.specs.Layout as at
+use Rattle.decode.specs.declared.Immediate.the-variants.{Addiu}
+use Rattle.decode.specs.declared.Alu.the-variants.{Addu, Subu}
+use Rattle.decode.specs.declared.Instruction.{Instruction}
+use Rattle.decode.specs.Fields.{opc, fun, rs, rt}
+use Rattle.decode.specs.Table.{Row, Column, blank, is, meets, met, look, table, rowOf, decoded}
+use Rattle.decode.specs.Mnemonics.{number, oneOf, rtype, compi, compr, alu, load, store, cas, flush, invlpg, eret}
+use Rattle.decode.proofs.Rows.{each}
+use Rattle.decode.proofs.Numbers.{everywhere}
+use Rattle.decode.proofs.Ranges.{agree}
+use Rattle.units.specs.Alu.{alucon}
+use Rattle.units.specs.Overflow.{overflow}
+use Rattle.units.proofs.Overflows.{overflow-number}
+use Rattle.isa.specs.declared.registers.Registers.{Registers}
+use Rattle.isa.specs.Core.{sprAt, lop, rop, deltaInstr}
+use Rattle.isa.specs.Interrupts.{ovfOf, signals, eventsWithout, causesOf, jisr, il, continues, deltaJisr, deltaRfe, deltaCore}
+use Rattle.records.specs.declared.Walk.{Walk}
+use Rattle.steps.specs.declared.Step.{Step}
+use Rattle.steps.specs.declared.Step.the-variants.{Core, TlbCreate, TlbExtend, TlbAccessed, StoreBuffer, SendIpi, SendEoi, InitCore, StartCore, Sample, Deliver, SetLine, NotAStep}
+use Rattle.report.specs.Configuration.{Configuration, withM}
+use Rattle.report.specs.Components.{ovf, eev, min, isFound, found, ΣApic, δapic}
+use Rattle.report.specs.Delta as report
+use Rattle.report.specs.Demands.{Allowed, excepted, claimed, overflowPrinted, Exception}
+
+-- ---- the control bits of an ALU instruction, by its name
+
+-- definition 28 from the codes
+abbrev conCode : Bool → ℕ → ℕ → ℕ
+conCode r o f = (if (r && eqb (f / 8 % 2) 1) || (not (eqb (o / 4 % 2) 1) && eqb (o / 2 % 2) 1) then 2 ^ 3 else 0) + (if r then f % 8 else o % 8)
+
+bit-one : (x : ℕ) → x % 2 ^ 6 / 2 % 2 ≡ x / 2 % 2
+bit-one x = omega arith
+
+bit-two : (x : ℕ) → x % 2 ^ 6 / 4 % 2 ≡ x / 4 % 2
+bit-two x = omega arith
+
+alucon-code : (r : Bool) (w : ℕ) → alucon r w ≡ conCode r (opc w) (fun w)
+unfolding alucon
+alucon-code true w =
+    let p : fun w / 8 % 2 ≡ w / 2 ^ 3 % 2 = omega arith in
+    let q : opc w / 4 % 2 ≡ w / 2 ^ 28 % 2 = bit-two (w / 2 ^ 26) ∙ ap (λ (n : ℕ). n % 2) (div-div-eq-div-mul w (2 ^ 26) 4) in
+    let s : opc w / 2 % 2 ≡ w / 2 ^ 27 % 2 = bit-one (w / 2 ^ 26) ∙ ap (λ (n : ℕ). n % 2) (div-div-eq-div-mul w (2 ^ 26) 2) in
+    let l : fun w % 8 ≡ w % 2 ^ 3 = omega arith in
+    rw (p, q, s, l)
+alucon-code false w =
+    let q : opc w / 4 % 2 ≡ w / 2 ^ 28 % 2 = bit-two (w / 2 ^ 26) ∙ ap (λ (n : ℕ). n % 2) (div-div-eq-div-mul w (2 ^ 26) 4) in
+    let s : opc w / 2 % 2 ≡ w / 2 ^ 27 % 2 = bit-one (w / 2 ^ 26) ∙ ap (λ (n : ℕ). n % 2) (div-div-eq-div-mul w (2 ^ 26) 2) in
+    let l : opc w % 8 ≡ field 28 26 w = omega arith in
+    rw (q, s, l)
+
+-- by its number
+abbrev conOf : ℕ → ℕ
+conOf n = if ltb n 10 then n - 8 else if ltb n 12 then n else if ltb n 16 then n - 8 else if ltb n 44 then n - 36 else n - 34
+
+abbrev finds : Instruction → ℕ → ℕ → Bool
+finds i o f = not (alu i) || eqb (conCode (rtype i) o f) (conOf (number i))
+
+-- a row that leaves the function code free is not of R-type
+abbrev columns : Instruction → Column → Column → Bool
+columns i blank c = false
+columns i (is k) (is j) = finds i k j
+columns i (is k) blank = not (alu i) || (not (rtype i) && finds i k 0)
+
+at-columns : (i : Instruction) (a b : Column) (o f : ℕ) → T (columns i a b) → meets a o ≡ true → meets b f ≡ true → T (finds i o f)
+at-columns i blank b o f t p q = absurd t
+at-columns i (is k) (is j) o f t p q = subst (λ (n : ℕ). T (finds i n f)) (sym (eqb-true o k p)) (subst (λ (n : ℕ). T (finds i k n)) (sym (eqb-true f j q)) t)
+at-columns i (is k) blank o f t p q = subst (λ (n : ℕ). T (finds i n f)) (sym (eqb-true o k p)) (go (alu i) (rtype i) t)
+  where
+    go : (a r : Bool) → T (not a || (not r && (not a || eqb (conCode r k 0) (conOf (number i))))) → T (not a || eqb (conCode r k f) (conOf (number i)))
+    go false r t = tt
+    go true true t = absurd t
+    go true false t = t
+
+abbrev controlled : Row → Bool
+controlled r = columns (r .name) (r .opcode) (r .fun)
+
+pick : (b : Bool) (r : Row) (j : Instruction) (o f s t : ℕ) → met r o f s t ≡ b → T (controlled r) → T (finds j o f) → T (finds (if b then r .name else j) o f)
+pick true r j o f s t e u v =
+    let e₁ = truths.and-right (meets (r .opcode) o) _ e in
+    let e₂ = truths.and-right (meets (r .rs) s) _ e₁ in
+    at-columns (r .name) (r .opcode) (r .fun) o f u (truths.and-left (meets (r .opcode) o) _ e) (truths.and-right (meets (r .rt) t) _ e₂)
+pick false r j o f s t e u v = v
+
+looked : (l : List Row) (o f s t : ℕ) → T (each controlled l) → T (finds (look l o f s t) o f)
+unfolding alu compi compr
+looked [] o f s t u = tt
+looked (r ∷ l) o f s t u = pick (met r o f s t) r (look l o f s t) o f s t refl (and-left (controlled r) (each controlled l) u) (looked l o f s t (and-right (controlled r) (each controlled l) u))
+
+all-controlled : T (each controlled table)
+unfolding alu compi compr rtype
+all-controlled = tt
+
+control : (w : ℕ) → alu (decoded w) ≡ true → alucon (rtype (decoded w)) w ≡ conOf (number (decoded w))
+unfolding decoded rowOf
+control w e =
+    alucon-code (rtype (decoded w)) w
+    ∙ eqb-true _ _ (truth _ (subst (λ (a : Bool). T (not a || eqb (conCode (rtype (decoded w)) (opc w) (fun w)) (conOf (number (decoded w))))) e (looked table (opc w) (fun w) (rs w) (rt w) all-controlled)))
+
+-- ---- where the rules part
+
+sums : (x : Instruction) → (alu x && eqb (conOf (number x)) 1) ≡ oneOf x (Instruction.Alu Addu ∷ Instruction.Immediate Addiu ∷ [])
+unfolding alu compi compr
+sums = agree (λ (x : Instruction). alu x && eqb (conOf (number x)) 1) (λ (x : Instruction). oneOf x (Instruction.Alu Addu ∷ Instruction.Immediate Addiu ∷ [])) tt
+
+differences : (x : Instruction) → (alu x && eqb (conOf (number x)) 3) ≡ oneOf x (Instruction.Alu Subu ∷ [])
+unfolding alu compi compr
+differences = agree (λ (x : Instruction). alu x && eqb (conOf (number x)) 3) (λ (x : Instruction). oneOf x (Instruction.Alu Subu ∷ [])) tt
+
+as-printed : (c : Registers) (w : ℕ) → report.byTable (decoded w) c w ≡ overflowPrinted (decoded w) (lop c w) (rop (rtype (decoded w)) c w)
+unfolding ovf
+as-printed c w =
+    named (alu (decoded w)) refl
+    ∙ (shape _ _ (alu (decoded w)) (eqb (conOf (number (decoded w))) 1) (eqb (conOf (number (decoded w))) 3) ∙ rw (sums (decoded w), differences (decoded w)) refl)
+  where
+    a : ℕ
+    a = lop c w
+
+    b : ℕ
+    b = rop (rtype (decoded w)) c w
+
+    named : (t : Bool) → alu (decoded w) ≡ t → (t && ovf a b (alucon (rtype (decoded w)) w)) ≡ (t && ovf a b (conOf (number (decoded w))))
+    named true e = ap (ovf a b) (control w e)
+    named false e = refl
+
+    shape : (x y t p q : Bool) → (t && (if p then x else if q then y else false)) ≡ (if t && p then x else if t && q then y else false)
+    shape x y true p q = refl
+    shape x y false p q = refl
+
+-- what holds of none but those six
+outside : (p : Instruction → Bool) → T (everywhere (λ (x : Instruction). same (p x && excepted x) (p x)) table) → (x : Instruction) → excepted x ≡ false → p x ≡ false
+outside p t x e = sym (agree (λ (y : Instruction). p y && excepted y) p t x) ∙ (ap (λ (b : Bool). p x && b) e ∙ and-false (p x))
+
+-- neither overflows on any other word
+quiet : (x : Instruction) (a b : ℕ) → excepted x ≡ false → overflow x a b ≡ false
+quiet x a b e =
+    overflow-number x a b ∙ rw (outside (λ (y : Instruction). eqb (number y) 36 || eqb (number y) 8) tt x e, outside (λ (y : Instruction). eqb (number y) 38) tt x e) refl
+
+quiet-printed : (x : Instruction) (a b : ℕ) → excepted x ≡ false → overflowPrinted x a b ≡ false
+quiet-printed x a b e =
+    rw (outside (λ (y : Instruction). oneOf y (Instruction.Alu Addu ∷ Instruction.Immediate Addiu ∷ [])) tt x e, outside (λ (y : Instruction). oneOf y (Instruction.Alu Subu ∷ [])) tt x e) refl
+
+pub rules-agree : (c : Registers) (w : ℕ) → excepted (decoded w) ≡ false → report.byTable (decoded w) c w ≡ ovfOf (decoded w) c w
+rules-agree c w e =
+    as-printed c w
+    ∙ (quiet-printed (decoded w) (lop c w) (rop (rtype (decoded w)) c w) e ∙ sym (quiet (decoded w) (lop c w) (rop (rtype (decoded w)) c w) e))
+
+-- outcomes that are both defined, or neither
+pub data Alike : report.Outcome → report.Outcome → Type 0 where
+  none : Alike report.none report.none
+  next : (x y : Configuration) (r s : report.Answer) → Alike (report.next x r) (report.next y s)
+
+itself : (o : report.Outcome) → Alike o o
+itself report.none = Alike.none
+itself (report.next x r) = Alike.next x x r r
+
+-- ---- a core's step by the one and by the other
+
+-- none of these is excepted
+pub load-not : (x : Instruction) → (load x && excepted x) ≡ false
+unfolding load
+load-not = agree (λ (x : Instruction). load x && excepted x) (λ (x : Instruction). false) tt
+
+pub store-not : (x : Instruction) → (store x && excepted x) ≡ false
+unfolding store
+store-not = agree (λ (x : Instruction). store x && excepted x) (λ (x : Instruction). false) tt
+
+pub cas-not : (x : Instruction) → (cas x && excepted x) ≡ false
+unfolding cas
+cas-not = agree (λ (x : Instruction). cas x && excepted x) (λ (x : Instruction). false) tt
+
+module _ (c : Configuration) (i : ℕ) (wI wR : Walk) where
+  abbrev I : ℕ
+  I = report.I c i wI wR
+
+  abbrev Same : Type 0
+  Same = report.mca c i wI wR report.byTable ≡ report.mca c i wI wR ovfOf
+
+  -- the masked causes, where f says that there is an instruction and o that it overflows
+  causesAt : Bool → Bool → ℕ
+  causesAt f o =
+      causesOf (c .p i .core) (if f then signals (decoded I) (c .p i .core) I (isFound (min (eev (c .p i .apic)))) (report.pfls c i wI wR) o
+      else eventsWithout (isFound (min (eev (c .p i .apic)))) (not (report.aligned c i wI wR)) (report.pff c i wI wR))
+
+  causes-by : (f : Bool) → report.fetched c i wI wR ≡ f → (rule : report.Rule) → report.mca c i wI wR rule ≡ causesAt f (rule (decoded I) (c .p i .core) I)
+  unfolding report.events causesAt
+  causes-by f p rule = rw p refl
+
+  causes-agree : report.byTable (decoded I) (c .p i .core) I ≡ ovfOf (decoded I) (c .p i .core) I → Same
+  causes-agree e =
+      causes-by (report.fetched c i wI wR) refl report.byTable ∙ (ap (causesAt (report.fetched c i wI wR)) e ∙ sym (causes-by (report.fetched c i wI wR) refl ovfOf))
+
+  causes-masked : isSet (sprAt (c .p i .core) at.sr) 7 ≡ false → Same
+  unfolding causesAt
+  causes-masked e =
+      causes-by (report.fetched c i wI wR) refl report.byTable
+      ∙ (go (report.fetched c i wI wR) (report.byTable (decoded I) (c .p i .core) I) (ovfOf (decoded I) (c .p i .core) I) ∙ sym (causes-by (report.fetched c i wI wR) refl ovfOf))
+    where
+      go : (f o p : Bool) → causesAt f o ≡ causesAt f p
+      go true o p = rw (e, and-false o, and-false p) refl
+      go false o p = refl
+
+  causes-same : (f : Bool) → report.fetched c i wI wR ≡ f → (f && excepted (decoded I)) ≡ false → Same
+  unfolding causesAt
+  causes-same true p e = causes-agree (rules-agree (c .p i .core) I e)
+  causes-same false p e = causes-by false p report.byTable ∙ sym (causes-by false p ovfOf)
+
+  -- what takes effect of an instruction that is not excepted
+  pub does-same : (p : Instruction → Bool) → ((x : Instruction) → (p x && excepted x) ≡ false) → report.does c i wI wR report.byTable p ≡ report.does c i wI wR ovfOf p
+  unfolding report.does
+  does-same p h = go (report.is c i wI wR p) refl
+    where
+      go : (b : Bool) → report.is c i wI wR p ≡ b →
+          (b && report._⇒_ (jisr (report.mca c i wI wR report.byTable)) (continues (il (report.mca c i wI wR report.byTable))))
+          ≡ (b && report._⇒_ (jisr (report.mca c i wI wR ovfOf)) (continues (il (report.mca c i wI wR ovfOf))))
+      go true e =
+          let q = truths.and-right (report.fetched c i wI wR) (p (decoded I)) e in
+          ap (λ (ca : ℕ). report._⇒_ (jisr ca) (continues (il ca)))
+          (causes-same true (truths.and-left (report.fetched c i wI wR) (p (decoded I)) e) (sym (ap (λ (t : Bool). t && excepted (decoded I)) q) ∙ h (decoded I)))
+      go false e = refl
+
+  -- the step, where the masked causes are the same
+  module _ (C : Same) where
+    does-by : (p : Instruction → Bool) → report.does c i wI wR report.byTable p ≡ report.does c i wI wR ovfOf p
+    unfolding report.does
+    does-by p = ap (λ (ca : ℕ). report.is c i wI wR p && report._⇒_ (jisr ca) (continues (il ca))) C
+
+    core-by : report.core′ c i wI wR report.byTable ≡ report.core′ c i wI wR ovfOf
+    unfolding report.core′ deltaCore
+    core-by =
+        ap (λ (ca : ℕ). let R = if report.is c i wI wR load || report.is c i wI wR cas then report.R c i wI wR else 0 in
+        if jisr ca then deltaJisr (c .p i .core) I R ca (found (min (eev (c .p i .apic))))
+        else if eret (decoded I) then deltaRfe (c .p i .core) else deltaInstr (c .p i .core) I R) C
+
+    apic-by : report.apic′ c i wI wR report.byTable ≡ report.apic′ c i wI wR ovfOf
+    unfolding report.apic′
+    apic-by = ap (λ (ca : ℕ). if jisr ca then δapic (c .p i .apic) ΣApic.jisr else if report.is c i wI wR eret then δapic (c .p i .apic) ΣApic.rfe else c .p i .apic) C
+
+    sb-by : report.sb′ c i wI wR report.byTable ≡ report.sb′ c i wI wR ovfOf
+    unfolding report.sb′
+    sb-by = rw (does-by store) refl
+
+    tlb-by : report.tlb′ c i wI wR report.byTable ≡ report.tlb′ c i wI wR ovfOf
+    unfolding report.tlb′
+    tlb-by = rw (does-by flush, does-by invlpg) refl
+
+    memory-by : report.m′ c i wI wR report.byTable ≡ report.m′ c i wI wR ovfOf
+    unfolding report.m′
+    memory-by = rw (does-by cas) refl
+
+    step-by : report.coreStep c i wI wR report.byTable ≡ report.coreStep c i wI wR ovfOf
+    unfolding report.coreStep
+    step-by j =
+        if report.coreGuards c i wI wR then
+        report.next (withM (report.withProcessor c i (record { core = core-by j; sb = sb-by j; tlb = tlb-by j; apic = apic-by j })) (memory-by j))
+        (if jisr (C j) then report.interrupt (il (C j)) else report.done)
+        else report.none
+
+  -- whether it is defined
+  core-alike : Alike (report.coreStep c i wI wR ovfOf) (report.coreStep c i wI wR report.byTable)
+  unfolding report.coreStep
+  core-alike = go _ _ _ _ (report.coreGuards c i wI wR)
+    where
+      go : (x y : Configuration) (r s : report.Answer) (g : Bool) → Alike (if g then report.next x r else report.none) (if g then report.next y s else report.none)
+      go x y r s true = Alike.next x y r s
+      go x y r s false = Alike.none
+
+-- ---- a step of any kind
+
+pub claimed-trade : (c : Configuration) (a : Step) → claimed c a ≡ report.δBy ovfOf c a
+unfolding claimed report.δBy
+claimed-trade c (Core i wI wR) = go (report.is c i wI wR excepted) refl
+  where
+    go : (b : Bool) → report.is c i wI wR excepted ≡ b → (if b then report.δBy ovfOf c (Core i wI wR) else report.δ c (Core i wI wR)) ≡ report.δBy ovfOf c (Core i wI wR)
+    go true e = refl
+    go false e = ap (λ (o : report.Outcome). if ltb i (c .np) then o else report.none) (step-by c i wI wR (causes-same c i wI wR (report.fetched c i wI wR) refl e))
+claimed-trade c (StoreBuffer i) = refl
+claimed-trade c (TlbCreate i va) = refl
+claimed-trade c (TlbAccessed i w) = refl
+claimed-trade c (TlbExtend i w) = refl
+claimed-trade c (SendIpi i) = refl
+claimed-trade c (SendEoi i) = refl
+claimed-trade c (InitCore i) = refl
+claimed-trade c (StartCore i) = refl
+claimed-trade c (Sample k) = refl
+claimed-trade c (Deliver k) = refl
+claimed-trade c (SetLine k level) = refl
+claimed-trade c NotAStep = refl
+
+-- by either rule δ is defined for the same steps
+δ-alike : (c : Configuration) (a : Step) → Alike (report.δBy ovfOf c a) (report.δ c a)
+unfolding report.δBy
+δ-alike c (Core i wI wR) = go (ltb i (c .np))
+  where
+    go : (b : Bool) → Alike (if b then report.coreStep c i wI wR ovfOf else report.none) (if b then report.coreStep c i wI wR report.byTable else report.none)
+    go true = core-alike c i wI wR
+    go false = Alike.none
+δ-alike c (StoreBuffer i) = itself _
+δ-alike c (TlbCreate i va) = itself _
+δ-alike c (TlbAccessed i w) = itself _
+δ-alike c (TlbExtend i w) = itself _
+δ-alike c (SendIpi i) = itself _
+δ-alike c (SendEoi i) = itself _
+δ-alike c (InitCore i) = itself _
+δ-alike c (StartCore i) = itself _
+δ-alike c (Sample k) = itself _
+δ-alike c (Deliver k) = itself _
+δ-alike c (SetLine k level) = itself _
+δ-alike c NotAStep = Alike.none
+
+pub defined-none : (c : Configuration) (a : Step) → report.δBy ovfOf c a ≡ report.none → report.δ c a ≡ report.none
+defined-none c a = go (δ-alike c a)
+  where
+    go : {o p : report.Outcome} → Alike o p → o ≡ report.none → p ≡ report.none
+    go Alike.none q = refl
+    go (Alike.next x y r s) q = absurd (let z : _≡_ {A = ℕ} 0 1 = cc in omega arith)
+
+pub defined-allowed : (c : Configuration) (a : Step) → Allowed (report.δBy ovfOf c a) → Allowed (report.δ c a)
+defined-allowed c a = go (δ-alike c a)
+  where
+    go : {o p : report.Outcome} → Alike o p → Allowed o → Allowed p
+    go Alike.none A = A
+    go (Alike.next x y r s) A = record { to = y; answer = s; is-next = refl }
+
+-- ---- how far the exception goes
+
+pub exception : Exception
+unfolding report.δBy
+exception =
+    record {
+      in-words = as-printed;
+      agreeing = λ c i wI wR e. is-δ c i wI wR (causes-agree c i wI wR e);
+      masked = λ c i wI wR e. is-δ c i wI wR (causes-masked c i wI wR e);
+    }
+  where
+    is-δ : (c : Configuration) (i : ℕ) (wI wR : Walk) → Same c i wI wR → claimed c (Core i wI wR) ≡ report.δ c (Core i wI wR)
+    is-δ c i wI wR e = claimed-trade c (Core i wI wR) ∙ sym (ap (λ (o : report.Outcome). if ltb i (c .np) then o else report.none) (step-by c i wI wR e))
