@@ -36,6 +36,20 @@ none p [] o f s t u miss = refl
 none p (r ∷ l) o f s t u miss =
     rw (miss r (and-left (p r) (each p l) u)) (none p l o f s t (and-right (p r) (each p l) u) miss)
 
+-- ---- a row is met, or none
+
+-- what holds of an illegal word, and of each row's instruction where the row is met, holds of what is found
+pub found-by : (q : Instruction → Bool) (p : Row → Bool) (l : List Row) (o f s t : ℕ) → T (q Illegal) →
+    ((r : Row) → T (p r) → met r o f s t ≡ true → T (q (r .name))) → T (each p l) → T (q (look l o f s t))
+found-by q p [] o f s t z m u = z
+found-by q p (r ∷ l) o f s t z m u = pick (met r o f s t) refl (found-by q p l o f s t z m (and-right (p r) (each p l) u))
+  where
+    pick : (b : Bool) → met r o f s t ≡ b → T (q (look l o f s t)) → T (q (if b then r .name else look l o f s t))
+    pick true e v = m r (and-left (p r) (each p l) u) e
+    pick false e v = v
+
+-- ---- codes that no row has
+
 -- a column has one of the codes
 abbrev pub listed : List ℕ → Column → Bool
 listed ks blank = false

@@ -1,19 +1,16 @@
 -- The types of definition 23 by opcode are those by table, for every legal word.
 -- Assumes nothing.
-use mathlib.Core.Path.{_≡_, refl, sym, ap, _∙_, subst}
+use mathlib.Core.Path.{_≡_, refl, sym, subst}
 use mathlib.Core.Bool.{Bool, true, false, not, _&&_, _||_}
-use mathlib.Core.List.{List, [], _∷_}
 use Prim.Native.Nat.{ℕ}
 use lib.Dec.{T, eqb}
 use borrow.Author.Tests.{eqb-true}
-use Rattle.word.specs.Word.{if_then_else_}
 use Rattle.word.proofs.Tests.{and-left, and-right, same, same-eq}
 use Rattle.decode.specs.declared.Instruction.{Instruction}
-use Rattle.decode.specs.declared.Instruction.the-variants.{Illegal}
 use Rattle.decode.specs.Fields.{opc, fun, rs, rt}
-use Rattle.decode.specs.Table.{Row, Column, blank, is, meets, met, look, table, rowOf, decoded}
+use Rattle.decode.specs.Table.{Row, Column, blank, is, meets, look, table, rowOf, decoded}
 use Rattle.decode.specs.Mnemonics.{itype, jtype, rtype, ill}
-use Rattle.decode.proofs.Rows.{each}
+use Rattle.decode.proofs.Rows.{found-by}
 
 -- definition 23
 abbrev pub rtypeCode : ℕ → Bool
@@ -45,18 +42,12 @@ or-right : (a b : Bool) → T b → T (a || b)
 or-right true b t = tt
 or-right false b t = t
 
-pick : (b : Bool) (r : Row) (j : Instruction) (o f s t : ℕ) → met r o f s t ≡ b → T (typed r) → T (ill j || agree j o) → T (ill (if b then r .name else j) || agree (if b then r .name else j) o)
-pick true r j o f s t e u v =
-    or-right (ill (r .name)) (agree (r .name) o)
-    (column (r .name) (r .opcode) o u (and-true (meets (r .opcode) o) (meets (r .rs) s && (meets (r .rt) t && meets (r .fun) f)) e))
-pick false r j o f s t e u v = v
-
-found : (l : List Row) (o f s t : ℕ) → T (each typed l) → T (ill (look l o f s t) || agree (look l o f s t) o)
-unfolding ill
-found [] o f s t u = tt
-found (r ∷ l) o f s t u =
-    pick (met r o f s t) r (look l o f s t) o f s t refl (and-left (typed r) (each typed l) u)
-    (found l o f s t (and-right (typed r) (each typed l) u))
+found : (o f s t : ℕ) → T (ill (look table o f s t) || agree (look table o f s t) o)
+unfolding ill rtype jtype itype
+found o f s t =
+    found-by (λ (i : Instruction). ill i || agree i o) typed table o f s t tt
+    (λ r u e. or-right (ill (r .name)) (agree (r .name) o) (column (r .name) (r .opcode) o u (and-true (meets (r .opcode) o) (meets (r .rs) s && (meets (r .rt) t && meets (r .fun) f)) e)))
+    tt
 
 left : (a b : Bool) → T (a || b) → a ≡ false → T b
 left true b t e = absurd (subst T e tt)
@@ -64,7 +55,7 @@ left false b t e = t
 
 agreed : (w : ℕ) → ill (decoded w) ≡ false → T (agree (decoded w) (opc w))
 unfolding decoded rowOf rtype jtype itype
-agreed w e = left (ill (decoded w)) (agree (decoded w) (opc w)) (found table (opc w) (fun w) (rs w) (rt w) tt) e
+agreed w e = left (ill (decoded w)) (agree (decoded w) (opc w)) (found (opc w) (fun w) (rs w) (rt w)) e
 
 pub types-by-opcode : (w : ℕ) → ill (decoded w) ≡ false →
     (rtype (decoded w) ≡ rtypeCode (opc w)) × (jtype (decoded w) ≡ jtypeCode (opc w)) × (itype (decoded w) ≡ not (rtypeCode (opc w) || jtypeCode (opc w)))

@@ -3,23 +3,23 @@
 -- Assumes nothing.
 use mathlib.Core.Path.{_≡_, refl, sym, _∙_, ap, subst}
 use mathlib.Core.Bool.{Bool, true, false, not, _&&_, _||_}
-use mathlib.Core.List.{List, [], _∷_}
+use mathlib.Core.List.{[], _∷_}
 use Prim.Native.Nat.{ℕ, _+_, _-_, _/_, _%_, _^_}
 use native.Mathlib.Nat.{div-div-eq-div-mul}
 use native.Mathlib.Omega.{arith}
 use lib.Dec.{T, eqb, ltb}
 use borrow.Author.Tests.{eqb-true}
 use Rattle.word.specs.Word.{if_then_else_, field, isSet}
-use Rattle.word.proofs.Tests.{same, truth, and-left, and-right, and-false}
+use Rattle.word.proofs.Tests.{same, truth, and-false}
 use Rattle.word.proofs.Truth as truths
 use Rattle.layout.specs.Layout as at
 use Rattle.decode.specs.declared.Immediate.the-variants.{Addiu}
 use Rattle.decode.specs.declared.Alu.the-variants.{Addu, Subu}
 use Rattle.decode.specs.declared.Instruction.{Instruction}
 use Rattle.decode.specs.Fields.{opc, fun, rs, rt}
-use Rattle.decode.specs.Table.{Row, Column, blank, is, meets, met, look, table, rowOf, decoded}
+use Rattle.decode.specs.Table.{Row, Column, blank, is, meets, look, table, rowOf, decoded}
 use Rattle.decode.specs.Mnemonics.{number, oneOf, rtype, compi, compr, alu, load, store, cas, flush, invlpg, eret}
-use Rattle.decode.proofs.Rows.{each}
+use Rattle.decode.proofs.Rows.{found-by}
 use Rattle.decode.proofs.Numbers.{everywhere}
 use Rattle.decode.proofs.Ranges.{agree}
 use Rattle.units.specs.Alu.{alucon}
@@ -88,27 +88,20 @@ at-columns i (is k) blank o f t p q = subst (λ (n : ℕ). T (finds i n f)) (sym
 abbrev controlled : Row → Bool
 controlled r = columns (r .name) (r .opcode) (r .fun)
 
-pick : (b : Bool) (r : Row) (j : Instruction) (o f s t : ℕ) → met r o f s t ≡ b → T (controlled r) → T (finds j o f) → T (finds (if b then r .name else j) o f)
-pick true r j o f s t e u v =
+looked : (o f s t : ℕ) → T (finds (look table o f s t) o f)
+unfolding alu compi compr rtype
+looked o f s t =
+    found-by (λ (i : Instruction). finds i o f) controlled table o f s t tt
+    (λ r u e.
     let e₁ = truths.and-right (meets (r .opcode) o) _ e in
     let e₂ = truths.and-right (meets (r .rs) s) _ e₁ in
-    at-columns (r .name) (r .opcode) (r .fun) o f u (truths.and-left (meets (r .opcode) o) _ e) (truths.and-right (meets (r .rt) t) _ e₂)
-pick false r j o f s t e u v = v
-
-looked : (l : List Row) (o f s t : ℕ) → T (each controlled l) → T (finds (look l o f s t) o f)
-unfolding alu compi compr
-looked [] o f s t u = tt
-looked (r ∷ l) o f s t u = pick (met r o f s t) r (look l o f s t) o f s t refl (and-left (controlled r) (each controlled l) u) (looked l o f s t (and-right (controlled r) (each controlled l) u))
-
-all-controlled : T (each controlled table)
-unfolding alu compi compr rtype
-all-controlled = tt
+    at-columns (r .name) (r .opcode) (r .fun) o f u (truths.and-left (meets (r .opcode) o) _ e) (truths.and-right (meets (r .rt) t) _ e₂)) tt
 
 control : (w : ℕ) → alu (decoded w) ≡ true → alucon (rtype (decoded w)) w ≡ conOf (number (decoded w))
 unfolding decoded rowOf
 control w e =
     alucon-code (rtype (decoded w)) w
-    ∙ eqb-true _ _ (truth _ (subst (λ (a : Bool). T (not a || eqb (conCode (rtype (decoded w)) (opc w) (fun w)) (conOf (number (decoded w))))) e (looked table (opc w) (fun w) (rs w) (rt w) all-controlled)))
+    ∙ eqb-true _ _ (truth _ (subst (λ (a : Bool). T (not a || eqb (conCode (rtype (decoded w)) (opc w) (fun w)) (conOf (number (decoded w))))) e (looked (opc w) (fun w) (rs w) (rt w))))
 
 -- ---- where the rules part
 
