@@ -2,7 +2,7 @@
 -- Assumes nothing.
 use Rattle.report.proofs.Refusals.{demand1}
 use Rattle.report.proofs.Joined.{demand2, unhindered}
-use Rattle.report.proofs.Rules.{exception}
+use Rattle.report.proofs.Joined.{exception}
 use Rattle.report.proofs.Made.{resets}
 use Rattle.separation.proofs.Separation.{separation}
 use Rattle.claims.specs.Claims.{Claims}

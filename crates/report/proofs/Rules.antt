@@ -1,5 +1,4 @@
--- The two rules of overflow, the table's and the trade's: where they part; that a step is defined by both or by neither; and that it is the same by both where its
--- masked causes are.
+-- The two rules of overflow, the table's and the trade's: where they part, and what that is to the causes of a core's step and to what takes effect.
 -- Assumes nothing.
 use mathlib.Core.Path.{_≡_, refl, sym, _∙_, ap, subst}
 use mathlib.Core.Bool.{Bool, true, false, not, _&&_, _||_}
@@ -18,7 +17,7 @@ use Rattle.decode.specs.declared.Alu.the-variants.{Addu, Subu}
 use Rattle.decode.specs.declared.Instruction.{Instruction}
 use Rattle.decode.specs.Fields.{opc, fun, rs, rt}
 use Rattle.decode.specs.Table.{Row, Column, blank, is, meets, look, table, rowOf, decoded}
-use Rattle.decode.specs.Mnemonics.{number, oneOf, rtype, compi, compr, alu, load, store, cas, flush, invlpg, eret}
+use Rattle.decode.specs.Mnemonics.{number, oneOf, rtype, compi, compr, alu, load, store, cas}
 use Rattle.decode.proofs.Rows.{found-by}
 use Rattle.decode.proofs.Numbers.{everywhere}
 use Rattle.decode.proofs.Ranges.{agree}
@@ -26,15 +25,13 @@ use Rattle.units.specs.Alu.{alucon}
 use Rattle.units.specs.Overflow.{overflow}
 use Rattle.units.proofs.Overflows.{overflow-number}
 use Rattle.isa.specs.declared.registers.Registers.{Registers}
-use Rattle.isa.specs.Core.{sprAt, lop, rop, deltaInstr}
-use Rattle.isa.specs.Interrupts.{ovfOf, signals, eventsWithout, causesOf, jisr, il, continues, deltaJisr, deltaRfe, deltaCore}
+use Rattle.isa.specs.Core.{sprAt, lop, rop}
+use Rattle.isa.specs.Interrupts.{ovfOf, signals, eventsWithout, causesOf, jisr, il, continues}
 use Rattle.records.specs.declared.Walk.{Walk}
-use Rattle.steps.specs.declared.Step.{Step}
-use Rattle.steps.specs.declared.Step.the-variants.{Core, TlbCreate, TlbExtend, TlbAccessed, StoreBuffer, SendIpi, SendEoi, InitCore, StartCore, Sample, Deliver, SetLine, NotAStep}
-use Rattle.report.specs.Configuration.{Configuration, withM}
-use Rattle.report.specs.Components.{ovf, eev, min, isFound, found, ΣApic, δapic}
+use Rattle.report.specs.Configuration.{Configuration}
+use Rattle.report.specs.Components.{ovf, eev, min, isFound}
 use Rattle.report.specs.Delta as report
-use Rattle.report.specs.Demands.{Allowed, excepted, claimed, overflowPrinted, Exception}
+use Rattle.report.specs.Demands.{excepted, overflowPrinted}
 
 -- ---- the control bits of an ALU instruction, by its name
 
@@ -113,7 +110,7 @@ differences : (x : Instruction) → (alu x && eqb (conOf (number x)) 3) ≡ oneO
 unfolding alu compi compr
 differences = agree (λ (x : Instruction). alu x && eqb (conOf (number x)) 3) (λ (x : Instruction). oneOf x (Instruction.Alu Subu ∷ [])) tt
 
-as-printed : (c : Registers) (w : ℕ) → report.byTable (decoded w) c w ≡ overflowPrinted (decoded w) (lop c w) (rop (rtype (decoded w)) c w)
+pub as-printed : (c : Registers) (w : ℕ) → report.byTable (decoded w) c w ≡ overflowPrinted (decoded w) (lop c w) (rop (rtype (decoded w)) c w)
 unfolding ovf
 as-printed c w =
     named (alu (decoded w)) refl
@@ -146,21 +143,12 @@ quiet-printed : (x : Instruction) (a b : ℕ) → excepted x ≡ false → overf
 quiet-printed x a b e =
     rw (outside (λ (y : Instruction). oneOf y (Instruction.Alu Addu ∷ Instruction.Immediate Addiu ∷ [])) tt x e, outside (λ (y : Instruction). oneOf y (Instruction.Alu Subu ∷ [])) tt x e) refl
 
-pub rules-agree : (c : Registers) (w : ℕ) → excepted (decoded w) ≡ false → report.byTable (decoded w) c w ≡ ovfOf (decoded w) c w
+rules-agree : (c : Registers) (w : ℕ) → excepted (decoded w) ≡ false → report.byTable (decoded w) c w ≡ ovfOf (decoded w) c w
 rules-agree c w e =
     as-printed c w
     ∙ (quiet-printed (decoded w) (lop c w) (rop (rtype (decoded w)) c w) e ∙ sym (quiet (decoded w) (lop c w) (rop (rtype (decoded w)) c w) e))
 
--- outcomes that are both defined, or neither
-pub data Alike : report.Outcome → report.Outcome → Type 0 where
-  none : Alike report.none report.none
-  next : (x y : Configuration) (r s : report.Answer) → Alike (report.next x r) (report.next y s)
-
-itself : (o : report.Outcome) → Alike o o
-itself report.none = Alike.none
-itself (report.next x r) = Alike.next x x r r
-
--- ---- a core's step by the one and by the other
+-- ---- a core's step
 
 -- none of these is excepted
 pub load-not : (x : Instruction) → (load x && excepted x) ≡ false
@@ -179,7 +167,7 @@ module _ (c : Configuration) (i : ℕ) (wI wR : Walk) where
   abbrev I : ℕ
   I = report.I c i wI wR
 
-  abbrev Same : Type 0
+  abbrev pub Same : Type 0
   Same = report.mca c i wI wR report.byTable ≡ report.mca c i wI wR ovfOf
 
   -- the masked causes, where f says that there is an instruction and o that it overflows
@@ -192,11 +180,11 @@ module _ (c : Configuration) (i : ℕ) (wI wR : Walk) where
   unfolding report.events causesAt
   causes-by f p rule = rw p refl
 
-  causes-agree : report.byTable (decoded I) (c .p i .core) I ≡ ovfOf (decoded I) (c .p i .core) I → Same
+  pub causes-agree : report.byTable (decoded I) (c .p i .core) I ≡ ovfOf (decoded I) (c .p i .core) I → Same
   causes-agree e =
       causes-by (report.fetched c i wI wR) refl report.byTable ∙ (ap (causesAt (report.fetched c i wI wR)) e ∙ sym (causes-by (report.fetched c i wI wR) refl ovfOf))
 
-  causes-masked : isSet (sprAt (c .p i .core) at.sr) 7 ≡ false → Same
+  pub causes-masked : isSet (sprAt (c .p i .core) at.sr) 7 ≡ false → Same
   unfolding causesAt
   causes-masked e =
       causes-by (report.fetched c i wI wR) refl report.byTable
@@ -206,7 +194,7 @@ module _ (c : Configuration) (i : ℕ) (wI wR : Walk) where
       go true o p = rw (e, and-false o, and-false p) refl
       go false o p = refl
 
-  causes-same : (f : Bool) → report.fetched c i wI wR ≡ f → (f && excepted (decoded I)) ≡ false → Same
+  pub causes-same : (f : Bool) → report.fetched c i wI wR ≡ f → (f && excepted (decoded I)) ≡ false → Same
   unfolding causesAt
   causes-same true p e = causes-agree (rules-agree (c .p i .core) I e)
   causes-same false p e = causes-by false p report.byTable ∙ sym (causes-by false p ovfOf)
@@ -224,120 +212,3 @@ module _ (c : Configuration) (i : ℕ) (wI wR : Walk) where
           ap (λ (ca : ℕ). report._⇒_ (jisr ca) (continues (il ca)))
           (causes-same true (truths.and-left (report.fetched c i wI wR) (p (decoded I)) e) (sym (ap (λ (t : Bool). t && excepted (decoded I)) q) ∙ h (decoded I)))
       go false e = refl
-
-  -- the step, where the masked causes are the same
-  module _ (C : Same) where
-    does-by : (p : Instruction → Bool) → report.does c i wI wR report.byTable p ≡ report.does c i wI wR ovfOf p
-    unfolding report.does
-    does-by p = ap (λ (ca : ℕ). report.is c i wI wR p && report._⇒_ (jisr ca) (continues (il ca))) C
-
-    core-by : report.core′ c i wI wR report.byTable ≡ report.core′ c i wI wR ovfOf
-    unfolding report.core′ deltaCore
-    core-by =
-        ap (λ (ca : ℕ). let R = if report.is c i wI wR load || report.is c i wI wR cas then report.R c i wI wR else 0 in
-        if jisr ca then deltaJisr (c .p i .core) I R ca (found (min (eev (c .p i .apic))))
-        else if eret (decoded I) then deltaRfe (c .p i .core) else deltaInstr (c .p i .core) I R) C
-
-    apic-by : report.apic′ c i wI wR report.byTable ≡ report.apic′ c i wI wR ovfOf
-    unfolding report.apic′
-    apic-by = ap (λ (ca : ℕ). if jisr ca then δapic (c .p i .apic) ΣApic.jisr else if report.is c i wI wR eret then δapic (c .p i .apic) ΣApic.rfe else c .p i .apic) C
-
-    sb-by : report.sb′ c i wI wR report.byTable ≡ report.sb′ c i wI wR ovfOf
-    unfolding report.sb′
-    sb-by = rw (does-by store) refl
-
-    tlb-by : report.tlb′ c i wI wR report.byTable ≡ report.tlb′ c i wI wR ovfOf
-    unfolding report.tlb′
-    tlb-by = rw (does-by flush, does-by invlpg) refl
-
-    memory-by : report.m′ c i wI wR report.byTable ≡ report.m′ c i wI wR ovfOf
-    unfolding report.m′
-    memory-by = rw (does-by cas) refl
-
-    step-by : report.coreStep c i wI wR report.byTable ≡ report.coreStep c i wI wR ovfOf
-    unfolding report.coreStep
-    step-by j =
-        if report.coreGuards c i wI wR then
-        report.next (withM (report.withProcessor c i (record { core = core-by j; sb = sb-by j; tlb = tlb-by j; apic = apic-by j })) (memory-by j))
-        (if jisr (C j) then report.interrupt (il (C j)) else report.done)
-        else report.none
-
-  -- whether it is defined
-  core-alike : Alike (report.coreStep c i wI wR ovfOf) (report.coreStep c i wI wR report.byTable)
-  unfolding report.coreStep
-  core-alike = go _ _ _ _ (report.coreGuards c i wI wR)
-    where
-      go : (x y : Configuration) (r s : report.Answer) (g : Bool) → Alike (if g then report.next x r else report.none) (if g then report.next y s else report.none)
-      go x y r s true = Alike.next x y r s
-      go x y r s false = Alike.none
-
--- ---- a step of any kind
-
-pub claimed-trade : (c : Configuration) (a : Step) → claimed c a ≡ report.δBy ovfOf c a
-unfolding claimed report.δBy
-claimed-trade c (Core i wI wR) = go (report.is c i wI wR excepted) refl
-  where
-    go : (b : Bool) → report.is c i wI wR excepted ≡ b → (if b then report.δBy ovfOf c (Core i wI wR) else report.δ c (Core i wI wR)) ≡ report.δBy ovfOf c (Core i wI wR)
-    go true e = refl
-    go false e = ap (λ (o : report.Outcome). if ltb i (c .np) then o else report.none) (step-by c i wI wR (causes-same c i wI wR (report.fetched c i wI wR) refl e))
-claimed-trade c (StoreBuffer i) = refl
-claimed-trade c (TlbCreate i va) = refl
-claimed-trade c (TlbAccessed i w) = refl
-claimed-trade c (TlbExtend i w) = refl
-claimed-trade c (SendIpi i) = refl
-claimed-trade c (SendEoi i) = refl
-claimed-trade c (InitCore i) = refl
-claimed-trade c (StartCore i) = refl
-claimed-trade c (Sample k) = refl
-claimed-trade c (Deliver k) = refl
-claimed-trade c (SetLine k level) = refl
-claimed-trade c NotAStep = refl
-
--- by either rule δ is defined for the same steps
-δ-alike : (c : Configuration) (a : Step) → Alike (report.δBy ovfOf c a) (report.δ c a)
-unfolding report.δBy
-δ-alike c (Core i wI wR) = go (ltb i (c .np))
-  where
-    go : (b : Bool) → Alike (if b then report.coreStep c i wI wR ovfOf else report.none) (if b then report.coreStep c i wI wR report.byTable else report.none)
-    go true = core-alike c i wI wR
-    go false = Alike.none
-δ-alike c (StoreBuffer i) = itself _
-δ-alike c (TlbCreate i va) = itself _
-δ-alike c (TlbAccessed i w) = itself _
-δ-alike c (TlbExtend i w) = itself _
-δ-alike c (SendIpi i) = itself _
-δ-alike c (SendEoi i) = itself _
-δ-alike c (InitCore i) = itself _
-δ-alike c (StartCore i) = itself _
-δ-alike c (Sample k) = itself _
-δ-alike c (Deliver k) = itself _
-δ-alike c (SetLine k level) = itself _
-δ-alike c NotAStep = Alike.none
-
-pub defined-none : (c : Configuration) (a : Step) → report.δBy ovfOf c a ≡ report.none → report.δ c a ≡ report.none
-defined-none c a = go (δ-alike c a)
-  where
-    go : {o p : report.Outcome} → Alike o p → o ≡ report.none → p ≡ report.none
-    go Alike.none q = refl
-    go (Alike.next x y r s) q = absurd (let z : _≡_ {A = ℕ} 0 1 = cc in omega arith)
-
-pub defined-allowed : (c : Configuration) (a : Step) → Allowed (report.δBy ovfOf c a) → Allowed (report.δ c a)
-defined-allowed c a = go (δ-alike c a)
-  where
-    go : {o p : report.Outcome} → Alike o p → Allowed o → Allowed p
-    go Alike.none A = A
-    go (Alike.next x y r s) A = record { to = y; answer = s; is-next = refl }
-
--- ---- how far the exception goes
-
-pub exception : Exception
-unfolding report.δBy
-exception =
-    record {
-      in-words = as-printed;
-      agreeing = λ c i wI wR e. is-δ c i wI wR (causes-agree c i wI wR e);
-      masked = λ c i wI wR e. is-δ c i wI wR (causes-masked c i wI wR e);
-    }
-  where
-    is-δ : (c : Configuration) (i : ℕ) (wI wR : Walk) → Same c i wI wR → claimed c (Core i wI wR) ≡ report.δ c (Core i wI wR)
-    is-δ c i wI wR e = claimed-trade c (Core i wI wR) ∙ sym (ap (λ (o : report.Outcome). if ltb i (c .np) then o else report.none) (step-by c i wI wR e))
