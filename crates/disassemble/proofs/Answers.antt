@@ -1,0 +1,36 @@
+-- What the operation answers and writes, from what each part of it has done.
+-- Assumes nothing.
+use mathlib.Core.Path.{_≡_, refl, ap, _∙_}
+use mathlib.Core.List.{List, _++_}
+use Prim.Native.Nat.{ℕ, _+_, _-_, _≤_}
+use native.Mathlib.Omega.{arith}
+use lib.ListN.{length, take, replicate}
+use borrow.Author.Tests.{eq-eqb, ne-eqb}
+use Rattle.text.specs.Text.{Put}
+use Rattle.decode.specs.Table.{decoded}
+use Rattle.disassemble.specs.declared.Form.{Form}
+use Rattle.disassemble.specs.declared.Disassembled.the-variants.{Length, Refused}
+use Rattle.disassemble.specs.Disassembly.{syntaxOf, disassembly, disassembleOn}
+use Rattle.disassemble.specs.inner.Forms.{formOf, formText}
+use Rattle.disassemble.proofs.Rows.{form-text, text-fits}
+
+pub refused : (w : ℕ) (b : List ℕ) → (length b ≡ 32 → ⊥) → (Refused 17 ≡ disassembleOn w b .answer) × (b ≡ disassembleOn w b .text)
+unfolding disassembleOn
+refused w b n = rw (ne-eqb (length b) 32 n) (refl, refl)
+
+-- the text of the form that was found
+pub form-found : {l : Form} (w : ℕ) → l ≡ formOf (syntaxOf (decoded w)) → formText l w ≡ disassembly w
+unfolding disassembly
+form-found w e = ap (λ (l : Form). formText l w) e ∙ form-text (decoded w) w
+
+pub form-fits : {l : Form} (w : ℕ) → l ≡ formOf (syntaxOf (decoded w)) → length (formText l w) ≤ 32
+form-fits w e = omega (arith, ap length (form-found w e), text-fits w)
+
+pub written :
+    {l : Form} {b c d : List ℕ} {n : ℕ} (w : ℕ) → length b ≡ 32 → l ≡ formOf (syntaxOf (decoded w)) → Put b 0 (formText l w) n c
+    → d ≡ take n c ++ replicate (length c - n) 0 → (Length n ≡ disassembleOn w b .answer) × (d ≡ disassembleOn w b .text)
+unfolding disassembleOn
+written {l} {b} {c} {d} {n} w h f p e =
+    let k : n ≡ length (disassembly w) = omega (arith, p .place, ap length (form-found w f)) in
+    let z : length c - n ≡ 32 - length (disassembly w) = omega (arith, p .kept) in
+    rw (eq-eqb (length b) 32 h) (ap Length k, e ∙ rw (p .front, form-found w f, z) refl)

@@ -1,0 +1,4 @@
+pub mod Shown
+pub mod Rows
+pub mod Telling
+pub mod Answers

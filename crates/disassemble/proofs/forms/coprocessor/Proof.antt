@@ -1,0 +1,38 @@
+use borrow.Author.Tests.{eq-eqb, ne-eqb}
+use Rattle.decode.specs.Table.{rowOf}
+use Rattle.decode.proofs.Rows.{by-rs}
+use Rattle.disassemble.specs.Disassembly.{syntaxOf}
+use Rattle.disassemble.specs.inner.Forms.{formOf}
+use Rattle.disassemble.proofs.Shown.{shown}
+use Rattle.disassemble.proofs.forms.coprocessor.Statement.{statement}
+use Rattle.disassemble.proofs.forms.coprocessor.Tie as tie
+
+returns : tie.Need-returns
+unfolding rowOf syntaxOf formOf
+returns c = shown (by-rs (c .before .before .before .args .fun) (c .before .before .match .keys1))
+
+returns-2 : tie.Need-returns-2
+unfolding rowOf syntaxOf formOf
+returns-2 c = shown (by-rs (c .before .before .before .args .fun) (c .before .before .match .keys2))
+
+returns-3 : tie.Need-returns-3
+unfolding rowOf syntaxOf formOf
+returns-3 c = rw (← by-rs _ (c .before .before .before .match .keys3), eq-eqb _ _ (c .before .before .if1 .taken))
+
+returns-4 : tie.Need-returns-4
+unfolding rowOf syntaxOf formOf
+returns-4 c = rw (← by-rs _ (c .before .before .before .match .keys3), ne-eqb _ _ (c .before .before .if1 .left))
+
+returns-5 : tie.Need-returns-5
+unfolding rowOf syntaxOf formOf
+returns-5 c = let n = c .before .before .match .rest in simp (ne-eqb _ _ (n .1), ne-eqb _ _ (n .0 .1), ne-eqb _ _ (n .0 .0 .1))
+
+pub coprocessor-spec : {M : Type 1} → statement M
+coprocessor-spec =
+    tie.close
+    (tie.spec
+    returns
+    returns-2
+    returns-3
+    returns-4
+    returns-5)
