@@ -191,6 +191,11 @@ impl Counts {
         self.addresses += other.addresses;
     }
 
+    /// The rows that have occurred.
+    pub(crate) fn rows(&self) -> impl Iterator<Item = &(&'static str, String)> {
+        self.map.keys()
+    }
+
     /// How many rows of another have not yet occurred `enough` times here.
     pub(crate) fn rare(&self, other: &Counts, enough: u64) -> usize {
         other.map.keys().filter(|row| self.map.get(row).is_none_or(|&times| times < enough)).count()

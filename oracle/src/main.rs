@@ -4,7 +4,7 @@ use oracle::counts::Counts;
 use oracle::machine::step;
 use oracle::soundness::*;
 use oracle::ways::CONDITIONS;
-use oracle::{demand3, generate, groups, isa, program, translations, vectors};
+use oracle::{demand3, generate, groups, isa, program, texts, translations, vectors};
 use std::io::{Read, Write};
 
 const HELP: &str = "\
@@ -13,10 +13,12 @@ oracle vectors SEED > FILE     make the steps file
 oracle groups SEED > FILE      make the groups file (reach and apart)
 oracle translations SEED > FILE
                                make the translations file (translate)
-oracle replay FILE [N]         each answer of a steps or translations file, and
-                               what changed (vector or machine N alone)
+oracle texts SEED > FILE       make the texts file (disassemble)
+oracle replay FILE [N]         each answer of a steps, translations or texts file,
+                               and what changed (vector or machine N alone)
 oracle check FILE              replay a file of any kind and compare
 oracle counts FILE             how often each thing occurs
+oracle disassemble WORD...     the text of each word (hexadecimal)
 oracle demand3 SEED N [C [on]] demand 3 on N pairs of machines (condition C, 1 to 9,
                                off; on: a changed table byte does not end a pair)
 ";
@@ -31,6 +33,8 @@ fn main() {
         ["translations", seed] => {
             number(seed).and_then(|s| print(&vectors::write_translations(&translations::translations(s), s)))
         }
+        ["texts", seed] => number(seed).and_then(|s| print(&vectors::write_texts(&texts::texts(s), s))),
+        ["disassemble", ref words @ ..] if !words.is_empty() => disassemble(words),
         ["replay", file] => replay(file, None),
         ["replay", file, n] => number(n).and_then(|n| replay(file, Some(n as usize))),
         ["check", file] => check(file),
@@ -74,8 +78,32 @@ fn is_translations(bytes: &[u8]) -> bool {
     bytes.starts_with(vectors::TRANSLATIONS_MAGIC)
 }
 
+fn is_texts(bytes: &[u8]) -> bool {
+    bytes.starts_with(vectors::TEXTS_MAGIC)
+}
+
+/// A text a line.
+fn disassemble(words: &[&str]) -> Outcome {
+    let mut out = String::new();
+    for word in words {
+        let number =
+            u32::from_str_radix(word.trim_start_matches("0x"), 16).map_err(|_| format!("not a word: {word}"))?;
+        out += &oracle::disassemble::text(number);
+        out.push('\n');
+    }
+    print(out.as_bytes())
+}
+
 fn check(file: &str) -> Outcome {
     let bytes = load(file)?;
+    if is_texts(&bytes) {
+        let (all, _) = vectors::read_texts(&bytes)?;
+        if let Some(n) = all.iter().position(|v| vectors::answer_text(v.word, v.buffer.len()) != *v) {
+            return Err(format!("vector {n} differs"));
+        }
+        println!("{} vectors agree", all.len());
+        return Ok(());
+    }
     if is_translations(&bytes) {
         let (all, _) = vectors::read_translations(&bytes)?;
         let mut questions = 0;
@@ -124,6 +152,10 @@ fn check(file: &str) -> Outcome {
 fn counts(file: &str) -> Outcome {
     let bytes = load(file)?;
     let mut counts = Counts::default();
+    if is_texts(&bytes) {
+        vectors::read_texts(&bytes)?.0.iter().for_each(|v| counts.text(v));
+        return print(counts.print_texts().as_bytes());
+    }
     if is_translations(&bytes) {
         vectors::read_translations(&bytes)?.0.iter().for_each(|g| counts.translations(g));
         return print(counts.print_translations().as_bytes());
@@ -158,6 +190,9 @@ fn replay(file: &str, only: Option<usize>) -> Outcome {
     let bytes = load(file)?;
     if is_translations(&bytes) {
         return replay_translations(&bytes, only);
+    }
+    if is_texts(&bytes) {
+        return replay_texts(&bytes, only);
     }
     let (all, _) = vectors::read_steps(&bytes)?;
     let mut out = String::new();
@@ -239,6 +274,27 @@ fn replay_translations(bytes: &[u8], only: Option<usize>) -> Outcome {
                 out.push('\n');
             }
         }
+    }
+    print(out.as_bytes())
+}
+
+/// Each word with its text, or the length that is refused.
+fn replay_texts(bytes: &[u8], only: Option<usize>) -> Outcome {
+    let mut out = String::new();
+    let (all, _) = vectors::read_texts(bytes)?;
+    for (n, v) in all.iter().enumerate().filter(|(n, _)| only.is_none_or(|o| o == *n)) {
+        let again = vectors::answer_text(v.word, v.buffer.len());
+        out += &format!("vector {n}: {:08X} ", v.word);
+        out += &match again.answer {
+            117 => format!("refused 17, {} bytes", v.buffer.len()),
+            _ => oracle::disassemble::text(v.word),
+        };
+        if again.answer != v.answer {
+            out += &format!("  FILE SAYS {}", v.answer);
+        } else if again.buffer != v.buffer {
+            out += "  FILE HAS OTHER BYTES";
+        }
+        out.push('\n');
     }
     print(out.as_bytes())
 }

@@ -1,6 +1,7 @@
 //! The vector files: what a vector holds, and its bytes. README.md says the
 //! same byte by byte.
 
+use crate::disassemble::disassemble;
 use crate::machine::{make, run, step, Answer, Stop};
 use crate::reach::{apart, reach};
 use crate::soundness::{table_words, PAGE};
@@ -9,11 +10,16 @@ use crate::translate::translate;
 pub const STEPS_MAGIC: &[u8; 4] = b"M86S";
 pub const GROUPS_MAGIC: &[u8; 4] = b"M86G";
 pub const TRANSLATIONS_MAGIC: &[u8; 4] = b"M86T";
+pub const TEXTS_MAGIC: &[u8; 4] = b"M86D";
 pub const VERSION: u32 = 1;
 /// Each map byte before a call of reach.
 pub const MAP_FILL: u8 = 0xEE;
 /// Each answer word before a call of translate.
 pub const ANSWER_FILL: u32 = 0xEEEE_EEEE;
+/// Each byte of the buffer before a call of disassemble.
+pub const TEXT_FILL: u8 = 0xEE;
+/// The longest such buffer in a texts file.
+pub const TEXT_MOST: usize = 40;
 
 /// A machine as handed to the operations. `tables` and `memory` have the
 /// lengths handed in, which for damaged machines may disagree with the words.
@@ -99,6 +105,16 @@ pub struct Translations {
     pub machine: Machine,
     pub sum: u32,
     pub questions: Vec<Translation>,
+}
+
+/// One call of disassemble.
+#[derive(Clone, PartialEq, Debug)]
+pub struct Text {
+    pub word: u32,
+    /// The length of the text, or 100 + refusal.
+    pub answer: u8,
+    /// The whole buffer after the call; its length is the one handed over.
+    pub buffer: Vec<u8>,
 }
 
 // ---------------------------------------------------------------- check sums
@@ -194,6 +210,16 @@ pub fn answer_translation(machine: &Machine, asked: &Asked) -> Translation {
 pub fn answer_translations(machine: Machine, asked: &[Asked]) -> Translations {
     let questions = asked.iter().map(|asked| answer_translation(&machine, asked)).collect();
     Translations { sum: checksum(&machine.tables, &machine.memory), machine, questions }
+}
+
+/// The answer of disassemble with a buffer of this length.
+pub fn answer_text(word: u32, length: usize) -> Text {
+    let mut buffer = vec![TEXT_FILL; length];
+    let answer = match disassemble(word, &mut buffer) {
+        Ok(length) => length as u8,
+        Err(number) => 100 + number as u8,
+    };
+    Text { word, answer, buffer }
 }
 
 // ---------------------------------------------------------------- writing
@@ -320,6 +346,13 @@ impl Writer {
             self.u32(q.sum);
         }
     }
+
+    fn text(&mut self, text: &Text) {
+        self.u32(text.word);
+        self.u8(text.buffer.len() as u8);
+        self.u8(text.answer);
+        self.bytes.extend(&text.buffer);
+    }
 }
 
 pub fn write_steps(vectors: &[Vector], seed: u32) -> Vec<u8> {
@@ -340,6 +373,13 @@ pub fn write_translations(all: &[Translations], seed: u32) -> Vec<u8> {
     let mut w = Writer::default();
     w.header(TRANSLATIONS_MAGIC, all.len(), seed);
     all.iter().for_each(|g| w.translations(g));
+    w.bytes
+}
+
+pub fn write_texts(all: &[Text], seed: u32) -> Vec<u8> {
+    let mut w = Writer::default();
+    w.header(TEXTS_MAGIC, all.len(), seed);
+    all.iter().for_each(|text| w.text(text));
     w.bytes
 }
 
@@ -484,6 +524,14 @@ impl Reader<'_> {
         }
         Ok(Translations { machine, sum, questions })
     }
+
+    fn text(&mut self) -> Read<Text> {
+        let (word, length, answer) = (self.u32()?, self.u8()? as usize, self.u8()?);
+        if length > TEXT_MOST {
+            return Err("a length out of range".into());
+        }
+        Ok(Text { word, answer, buffer: self.take(length)?.to_vec() })
+    }
 }
 
 /// The vectors of a steps file and its seed.
@@ -515,6 +563,17 @@ pub fn read_translations(bytes: &[u8]) -> Read<(Vec<Translations>, u32)> {
     let all = (0..count).map(|_| r.translations()).collect::<Read<Vec<_>>>()?;
     if !r.bytes.is_empty() {
         return Err("bytes after the last machine".into());
+    }
+    Ok((all, seed))
+}
+
+/// The vectors of a texts file and its seed.
+pub fn read_texts(bytes: &[u8]) -> Read<(Vec<Text>, u32)> {
+    let mut r = Reader { bytes };
+    let (count, seed) = r.header(TEXTS_MAGIC)?;
+    let all = (0..count).map(|_| r.text()).collect::<Read<Vec<_>>>()?;
+    if !r.bytes.is_empty() {
+        return Err("bytes after the last vector".into());
     }
     Ok((all, seed))
 }

@@ -4,11 +4,12 @@
 use oracle::counts::Counts;
 use oracle::machine::step;
 use oracle::soundness::*;
-use oracle::{generate, groups, isa, run, sound, translations, vectors, Answer, Stop};
+use oracle::{generate, groups, isa, run, sound, texts, translations, vectors, Answer, Stop};
 
 const STEPS: &[u8] = include_bytes!("../vectors/steps.bin");
 const GROUPS: &[u8] = include_bytes!("../vectors/groups.bin");
 const TRANSLATIONS: &[u8] = include_bytes!("../vectors/translations.bin");
+const TEXTS: &[u8] = include_bytes!("../vectors/texts.bin");
 const README: &str = include_str!("../README.md");
 
 #[test]
@@ -20,6 +21,8 @@ fn the_seed_makes_the_files() {
     let (_, seed) = vectors::read_translations(TRANSLATIONS).unwrap();
     let made = vectors::write_translations(&translations::translations(seed), seed);
     assert!(made == TRANSLATIONS, "translations.bin");
+    let (_, seed) = vectors::read_texts(TEXTS).unwrap();
+    assert!(vectors::write_texts(&texts::texts(seed), seed) == TEXTS, "texts.bin");
 }
 
 /// Every answer and check sum; soundness is kept; a refused step changes the
@@ -112,8 +115,28 @@ fn translations_are_as_the_file_says() {
     }
 }
 
+/// Every answer and every byte; the lengths stay where README.md says; a text
+/// is followed by zeros, and where refused the buffer is as before.
+#[test]
+fn texts_are_as_the_file_says() {
+    assert!(TEXTS.len() < 300_000);
+    for v in vectors::read_texts(TEXTS).unwrap().0 {
+        let length = v.buffer.len();
+        assert!(length <= 40);
+        if length == 32 {
+            let (text, rest) = v.buffer.split_at(v.answer as usize);
+            assert!((3..=20).contains(&v.answer) && rest.iter().all(|byte| *byte == 0));
+            assert_eq!(text, oracle::disassemble::text(v.word).as_bytes());
+        } else {
+            assert_eq!((v.answer, &v.buffer), (117, &vec![vectors::TEXT_FILL; length]));
+        }
+        assert_eq!(vectors::answer_text(v.word, length), v);
+    }
+}
+
 /// Each thing that can occur does so twenty times, sums and translations 24
-/// times, and README.md has the tables that `oracle counts` prints.
+/// times, texts as often as is told with them, and README.md has the tables
+/// that `oracle counts` prints.
 #[test]
 fn counts() {
     let mut counts = Counts::default();
@@ -142,6 +165,13 @@ fn counts() {
         assert!(times >= 24, "{section}: {name} occurs {times} times");
     }
     assert!(README.contains(&counts.print_translations()), "counts of translations.bin in README.md");
+    let mut counts = Counts::default();
+    vectors::read_texts(TEXTS).unwrap().0.iter().for_each(|v| counts.text(v));
+    for (section, name, least) in Counts::expected_texts() {
+        let times = counts.get(section, &name);
+        assert!(times >= least, "{section}: {name} occurs {times} times");
+    }
+    assert!(README.contains(&counts.print_texts()), "counts of texts.bin in README.md");
 }
 
 /// Reach and apart agree with the plain listing of ways and conditions.
