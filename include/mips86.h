@@ -1,7 +1,7 @@
 /*
  * The MIPS-86 machine with one to four cores: make a machine, take one step, run a schedule; which pages a group of
  * cores reaches, whether the group is kept apart from the others, and why it is not; where virtual addresses of a core
- * lead.
+ * lead; the text of an instruction word.
  *
  * The caller lends the machine's tables (32-bit words) and its memory (bytes). All of the machine is in them: nothing
  * is kept between calls, nothing is allocated, and a copy of both is a copy of the machine.
@@ -49,10 +49,10 @@ extern "C" {
 /*
  * What is asked of every call. Each pointer is not null, is aligned for its type, and points to as many words or bytes
  * as the length after it says (with the length 0 it is still not null). What a call may write (all that is not const:
- * tables, memory, the map, the words at `accepted`, `beyond`, `words`, `answers` and `reads`) overlaps nothing else
- * that the call is given. Until it returns no other thread writes what a call was lent, or reads what it may write.
- * Calls on different machines may run at the same time. There is no other condition: any words and bytes may be handed
- * over.
+ * tables, memory, the map, the text, the words at `accepted`, `beyond`, `words`, `answers` and `reads`) overlaps
+ * nothing else that the call is given. Until it returns no other thread writes what a call was lent, or reads what it
+ * may write. Calls on different machines may run at the same time. There is no other condition: any words and bytes may
+ * be handed over.
  */
 
 /*
@@ -60,7 +60,7 @@ extern "C" {
  *    1 cores not 1 to 4                            (make)
  *    2 memory not 1 to 4,096 whole pages           (make)
  *    3 table length not that of the cores          (make)
- *    4 tables not sound                            (all but make)
+ *    4 tables not sound                            (all but make and disassemble)
  *    5 not a step                                  (step, run)
  *    6 the machine has no next state by this step  (step, run)
  *    7 a byte is in neither memory nor a port      (step, run)
@@ -74,6 +74,7 @@ extern "C" {
  *   14 core not there                              (translate)
  *   15 more than 64 addresses                      (translate)
  *   16 answers not three words an address          (translate)
+ *   17 the text's length is not 32                 (disassemble)
  * Where several apply, the first of them is given; of run's, 4 and 11 come before those of a step.
  */
 #define MIPS86_DONE 0u      /* made; the step is done; the end of the schedule; the map or the answers are filled */
@@ -197,6 +198,21 @@ uint32_t mips86_why(const uint32_t *tables, size_t ntables, const uint8_t *memor
 uint32_t mips86_translate(const uint32_t *tables, size_t ntables, const uint8_t *memory, size_t nmemory, uint32_t core,
                           const uint32_t *addresses, size_t naddresses, uint32_t *answers, size_t nanswers,
                           uint32_t *reads);
+
+/*
+ * The text of one instruction word, as in tables 1 to 4 of the report: the mnemonic in lower case, then the operands in
+ * the order of the assembler syntax, one blank before each. Registers are r0 to r31, a special one too (rd of movg2s
+ * and movs2g). imm is in signed decimal, but unsigned for andi, ori, xori and lui; sa and iindex are unsigned. imm of a
+ * branch and iindex of a jump are the fields themselves, not times four. Fields that the syntax does not name are not
+ * shown. An illegal word is `ill`.
+ *    00000000 sll r0 r0 0        1022ffff beq r1 r2 -1       0000000c sysc
+ *    8c22fffc lw r2 r1 -4        0fffffff jal 67108863       ffffffff ill
+ * Answers the length of the text, 3 to 20, or a refusal (17), which writes nothing. The text is ASCII, and all bytes
+ * behind it are zero, so that it is a string of C too. Nothing of a machine is read.
+ */
+#define MIPS86_TEXT_BYTES 32
+
+uint32_t mips86_disassemble(uint32_t word, uint8_t *text, size_t ntext);
 
 #ifdef __cplusplus
 }

@@ -792,6 +792,82 @@ static void test_translate_refusals(void) {
     TRANSLATE_REFUSES(0, 0, 0, 4);
 }
 
+/* ---- disassemble */
+
+/* a debugger's buffer for a text, and what lies behind it; the last byte ends any string */
+static uint8_t text[MIPS86_TEXT_BYTES + 8];
+
+static void spoil_text(void) {
+    memset(text, 0xEE, sizeof text - 1);
+}
+
+/* a line of a debugger's pane, with the text as a string; the buffer keeps what the call before left in it */
+static void shows(int line, uint32_t word, const char *expected_line) {
+    char pane[64];
+    uint32_t n = mips86_disassemble(word, text, MIPS86_TEXT_BYTES);
+    snprintf(pane, sizeof pane, "%08lx %s", (unsigned long)word, (const char *)text);
+    check_at(line, "strcmp(pane, expected_line)", strcmp(pane, expected_line) != 0, 0);
+    check_at(line, "the length", n, strlen(expected_line) - 9);
+    check_at(line, "strlen(text)", strlen((const char *)text), n);
+    for (size_t i = n; i < MIPS86_TEXT_BYTES; i++) check_at(line, "a byte behind the text", text[i], 0);
+    for (size_t i = MIPS86_TEXT_BYTES; i < sizeof text - 1; i++) check_at(line, "a byte beyond", text[i], 0xEE);
+}
+#define SHOWS(word, line) shows(__LINE__, word, line)
+
+/* words one after the other into one buffer, a long text before a short one */
+static void test_disassemble(void) {
+    spoil_text();
+    SHOWS(0x27FF8000, "27ff8000 addiu r31 r31 -32768"); /* as long as any */
+    SHOWS(0xFFFFFFFF, "ffffffff ill");
+    SHOWS(0x2FFF8000, "2fff8000 sltiu r31 r31 -32768");
+    SHOWS(0x08000000, "08000000 j 0");
+    SHOWS(0x0FFFFFFF, "0fffffff jal 67108863");
+    SHOWS(0x0000000C, "0000000c sysc");
+    SHOWS(0x8C22FFFC, "8c22fffc lw r2 r1 -4");
+    SHOWS(0xAFE07FFF, "afe07fff sw r0 r31 32767");
+    SHOWS(0x00000000, "00000000 sll r0 r0 0");
+    SHOWS(0x001FFFC3, "001fffc3 sra r31 r31 31");
+    SHOWS(0x00221804, "00221804 sllv r3 r2 r1");
+    SHOWS(0x00221820, "00221820 add r3 r1 r2");
+    SHOWS(0x00221818, "00221818 mult r1 r2"); /* rd is not named */
+    SHOWS(0x03E0F809, "03e0f809 jalr r31 r31");
+    SHOWS(0x002217FF, "002217ff cas r2 r1 r2");
+    SHOWS(0x002217FE, "002217fe mfence");
+    SHOWS(0x0022187C, "0022187c invlpg r3 r1");
+    SHOWS(0x70221802, "70221802 mul r3 r1 r2");
+    SHOWS(0x3022FFFF, "3022ffff andi r2 r1 65535");
+    SHOWS(0x3422FFFF, "3422ffff ori r2 r1 65535");
+    SHOWS(0x3822FFFF, "3822ffff xori r2 r1 65535");
+    SHOWS(0x3C1FFFFF, "3c1fffff lui r31 65535");
+    SHOWS(0x2022FFFF, "2022ffff addi r2 r1 -1");
+    SHOWS(0x1022FFFF, "1022ffff beq r1 r2 -1");
+    SHOWS(0x04218000, "04218000 bgez r1 -32768");
+    SHOWS(0x04228000, "04228000 ill");
+    SHOWS(0x40822800, "40822800 movg2s r5 r2");
+    SHOWS(0x40022800, "40022800 movs2g r5 r2");
+    SHOWS(0x42000018, "42000018 eret");
+    SHOWS(0x42000019, "42000019 ill");
+}
+
+/* another length is refused, and the text before it stays */
+static void test_disassemble_refusals(void) {
+    static const size_t lengths[] = {0, 1, 3, 20, 21, 31, 33, 40, 64};
+    uint8_t other[64];
+    memset(other, 0xEE, sizeof other);
+    for (size_t k = 0; k < sizeof lengths / sizeof *lengths; k++) {
+        CHECK(mips86_disassemble(0x8C22FFFC, other, lengths[k]), 117);
+        CHECK(mips86_disassemble(0xFFFFFFFF, other, lengths[k]), MIPS86_REFUSED + 17);
+        for (size_t i = 0; i < sizeof other; i++) CHECK(other[i], 0xEE);
+    }
+    spoil_text();
+    SHOWS(0x8C22FFFC, "8c22fffc lw r2 r1 -4");
+    CHECK(mips86_disassemble(0, text, MIPS86_TEXT_BYTES - 1), 117);
+    CHECK(mips86_disassemble(0, text, MIPS86_TEXT_BYTES + 1), 117);
+    CHECK(mips86_disassemble(0, text, 0), 117);
+    CHECK(strcmp((const char *)text, "lw r2 r1 -4") == 0, 1);
+    SHOWS(0x0000000C, "0000000c sysc");
+}
+
 int main(void) {
     test_make();
     test_example();
@@ -807,6 +883,8 @@ int main(void) {
     test_translate_alone();
     test_translate_most();
     test_translate_refusals();
+    test_disassemble();
+    test_disassemble_refusals();
     printf("C test: %u checks, %u failed\n", checks, failures);
     return failures != 0;
 }

@@ -1,16 +1,18 @@
 //! The MIPS-86 machine with one to four cores, for Rust: make a machine, take one step, run a schedule; which pages a
 //! group of cores reaches, whether the group is kept apart from the others, and why it is not; where virtual addresses
-//! of a core lead.
+//! of a core lead; the text of an instruction word.
 //!
 //! [`Machine`] owns a machine's tables and memory; the functions are for a caller who lends them. All of the machine is
 //! in the two: nothing is kept between calls. Every call is safe with any words and bytes, since the functions ask
 //! nothing but sound references. What each operation does to the tables and the memory is proved in Rattle
 //! (crates/mips86); `../../include/mips86.h` has the layout, the kinds of step and the refusals in short.
 
+mod disassemble;
 mod machine;
 mod translate;
 mod why;
 
+pub use disassemble::{disassemble, disassemble_into, disassembled};
 pub use machine::{LoadError, Machine, Reach};
 pub use translate::{translate, translate_into, Translated, Translation};
 pub use why::{reasons, why, Reason, Root, Side, Way};
@@ -25,6 +27,8 @@ pub const MOST_STEPS: usize = 1024;
 pub const MOST_ADDRESSES: usize = 64;
 /// Words of the answer for an address.
 pub const ANSWER_WORDS: usize = 3;
+/// Bytes of the buffer for the text of an instruction word.
+pub const TEXT_BYTES: usize = 32;
 
 /// In a map's byte: the page is named by a present entry of a second-level table, by a complete walk or by a pending
 /// store.
@@ -122,6 +126,7 @@ mod c {
             nanswers: usize,
             reads: *mut u32,
         ) -> u32;
+        pub fn mips86_disassemble(word: u32, text: *mut u8, ntext: usize) -> u32;
     }
 }
 
