@@ -4,6 +4,7 @@ fault on a load and returns to it. README.md says what each step shows.
 
     python3 fault.py > fault.bin             the input
     python3 fault.py --steps                 the steps, one to a line, with their remarks
+    python3 fault.py --page 0 > fault.page   a page of its memory, 0 to 4
 """
 import struct
 import sys
@@ -228,6 +229,12 @@ def main():
     if sys.argv[1:] == ["--steps"]:
         for n, (words, remark) in enumerate(steps):
             print("%2d  %2d %d %8x %5x %8x %5x  %s" % ((n,) + words + (remark,)))
+        return
+    if sys.argv[1:2] == ["--page"]:
+        if sys.argv[2:] not in [["0"], ["1"], ["2"], ["3"], ["4"]]:
+            sys.exit("fault.py: --page wants a page, 0 to 4")
+        at = PAGE * int(sys.argv[2])
+        sys.stdout.buffer.write(memory[at : at + PAGE])
         return
     out = bytes([1, len(memory) // PAGE]) + memory
     for words, _ in steps:
