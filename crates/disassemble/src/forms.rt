@@ -11,6 +11,7 @@ use super::OperandList::None;
 use super::OperandList::One;
 use super::OperandList::Three;
 use super::OperandList::Two;
+use super::mnemonics;
 ghost use mathlib.Core.Path.{_≡_};
 ghost use Rattle.decode.specs.Table.{decoded, rowOf};
 ghost use Rattle.disassemble.specs.Disassembly.{syntaxOf};
@@ -21,36 +22,36 @@ fn special(fun: u32) -> Form
     ensures { λ r. ⌜ r ≡ formOf (syntaxOf (rowOf 0 fun 0 0)) ⌝ }
 {
     match fun {
-        0b000000 => Form(*b"sll\0\0\0", Three(Rd, Rt, Sa)),
-        0b000010 => Form(*b"srl\0\0\0", Three(Rd, Rt, Sa)),
-        0b000011 => Form(*b"sra\0\0\0", Three(Rd, Rt, Sa)),
-        0b000100 => Form(*b"sllv\0\0", Three(Rd, Rt, Rs)),
-        0b000110 => Form(*b"srlv\0\0", Three(Rd, Rt, Rs)),
-        0b000111 => Form(*b"srav\0\0", Three(Rd, Rt, Rs)),
-        0b001000 => Form(*b"jr\0\0\0\0", One(Rs)),
-        0b001001 => Form(*b"jalr\0\0", Two(Rd, Rs)),
-        0b001100 => Form(*b"sysc\0\0", None),
-        0b010000 => Form(*b"mfhi\0\0", One(Rd)),
-        0b010001 => Form(*b"mthi\0\0", One(Rs)),
-        0b010010 => Form(*b"mflo\0\0", One(Rd)),
-        0b010011 => Form(*b"mtlo\0\0", One(Rs)),
-        0b011000 => Form(*b"mult\0\0", Two(Rs, Rt)),
-        0b011001 => Form(*b"multu\0", Two(Rs, Rt)),
-        0b100000 => Form(*b"add\0\0\0", Three(Rd, Rs, Rt)),
-        0b100001 => Form(*b"addu\0\0", Three(Rd, Rs, Rt)),
-        0b100010 => Form(*b"sub\0\0\0", Three(Rd, Rs, Rt)),
-        0b100011 => Form(*b"subu\0\0", Three(Rd, Rs, Rt)),
-        0b100100 => Form(*b"and\0\0\0", Three(Rd, Rs, Rt)),
-        0b100101 => Form(*b"or\0\0\0\0", Three(Rd, Rs, Rt)),
-        0b100110 => Form(*b"xor\0\0\0", Three(Rd, Rs, Rt)),
-        0b100111 => Form(*b"nor\0\0\0", Three(Rd, Rs, Rt)),
-        0b101010 => Form(*b"slt\0\0\0", Three(Rd, Rs, Rt)),
-        0b101011 => Form(*b"sltu\0\0", Three(Rd, Rs, Rt)),
-        0b111100 => Form(*b"invlpg", Two(Rd, Rs)),
-        0b111101 => Form(*b"flush\0", None),
-        0b111110 => Form(*b"mfence", None),
-        0b111111 => Form(*b"cas\0\0\0", Three(Rd, Rs, Rt)),
-        0b000001.. => Form(*b"ill\0\0\0", None),
+        0b000000 => Form(mnemonics::SLL, Three(Rd, Rt, Sa)),
+        0b000010 => Form(mnemonics::SRL, Three(Rd, Rt, Sa)),
+        0b000011 => Form(mnemonics::SRA, Three(Rd, Rt, Sa)),
+        0b000100 => Form(mnemonics::SLLV, Three(Rd, Rt, Rs)),
+        0b000110 => Form(mnemonics::SRLV, Three(Rd, Rt, Rs)),
+        0b000111 => Form(mnemonics::SRAV, Three(Rd, Rt, Rs)),
+        0b001000 => Form(mnemonics::JR, One(Rs)),
+        0b001001 => Form(mnemonics::JALR, Two(Rd, Rs)),
+        0b001100 => Form(mnemonics::SYSC, None),
+        0b010000 => Form(mnemonics::MFHI, One(Rd)),
+        0b010001 => Form(mnemonics::MTHI, One(Rs)),
+        0b010010 => Form(mnemonics::MFLO, One(Rd)),
+        0b010011 => Form(mnemonics::MTLO, One(Rs)),
+        0b011000 => Form(mnemonics::MULT, Two(Rs, Rt)),
+        0b011001 => Form(mnemonics::MULTU, Two(Rs, Rt)),
+        0b100000 => Form(mnemonics::ADD, Three(Rd, Rs, Rt)),
+        0b100001 => Form(mnemonics::ADDU, Three(Rd, Rs, Rt)),
+        0b100010 => Form(mnemonics::SUB, Three(Rd, Rs, Rt)),
+        0b100011 => Form(mnemonics::SUBU, Three(Rd, Rs, Rt)),
+        0b100100 => Form(mnemonics::AND, Three(Rd, Rs, Rt)),
+        0b100101 => Form(mnemonics::OR, Three(Rd, Rs, Rt)),
+        0b100110 => Form(mnemonics::XOR, Three(Rd, Rs, Rt)),
+        0b100111 => Form(mnemonics::NOR, Three(Rd, Rs, Rt)),
+        0b101010 => Form(mnemonics::SLT, Three(Rd, Rs, Rt)),
+        0b101011 => Form(mnemonics::SLTU, Three(Rd, Rs, Rt)),
+        0b111100 => Form(mnemonics::INVLPG, Two(Rd, Rs)),
+        0b111101 => Form(mnemonics::FLUSH, None),
+        0b111110 => Form(mnemonics::MFENCE, None),
+        0b111111 => Form(mnemonics::CAS, Three(Rd, Rs, Rt)),
+        0b000001.. => Form(mnemonics::ILL, None),
     }
 }
 
@@ -59,12 +60,12 @@ fn multiplication(fun: u32) -> Form
     ensures { λ r. ⌜ r ≡ formOf (syntaxOf (rowOf 28 fun 0 0)) ⌝ }
 {
     match fun {
-        0b000000 => Form(*b"madd\0\0", Two(Rs, Rt)),
-        0b000001 => Form(*b"maddu\0", Two(Rs, Rt)),
-        0b000010 => Form(*b"mul\0\0\0", Three(Rd, Rs, Rt)),
-        0b000100 => Form(*b"msub\0\0", Two(Rs, Rt)),
-        0b000101 => Form(*b"msubu\0", Two(Rs, Rt)),
-        0b000011.. => Form(*b"ill\0\0\0", None),
+        0b000000 => Form(mnemonics::MADD, Two(Rs, Rt)),
+        0b000001 => Form(mnemonics::MADDU, Two(Rs, Rt)),
+        0b000010 => Form(mnemonics::MUL, Three(Rd, Rs, Rt)),
+        0b000100 => Form(mnemonics::MSUB, Two(Rs, Rt)),
+        0b000101 => Form(mnemonics::MSUBU, Two(Rs, Rt)),
+        0b000011.. => Form(mnemonics::ILL, None),
     }
 }
 
@@ -73,16 +74,16 @@ fn coprocessor(fun: u32, rs: u32) -> Form
     ensures { λ r. ⌜ r ≡ formOf (syntaxOf (rowOf 16 fun rs 0)) ⌝ }
 {
     match rs {
-        0b00000 => Form(*b"movs2g", Two(Rd, Rt)),
-        0b00100 => Form(*b"movg2s", Two(Rd, Rt)),
+        0b00000 => Form(mnemonics::MOVS2G, Two(Rd, Rt)),
+        0b00100 => Form(mnemonics::MOVG2S, Two(Rd, Rt)),
         0b10000 => {
             if fun == 0b011000 {
-                Form(*b"eret\0\0", None)
+                Form(mnemonics::ERET, None)
             } else {
-                Form(*b"ill\0\0\0", None)
+                Form(mnemonics::ILL, None)
             }
         }
-        0b00001.. => Form(*b"ill\0\0\0", None),
+        0b00001.. => Form(mnemonics::ILL, None),
     }
 }
 
@@ -91,9 +92,9 @@ fn sign_branch(rt: u32) -> Form
     ensures { λ r. ⌜ r ≡ formOf (syntaxOf (rowOf 1 0 0 rt)) ⌝ }
 {
     match rt {
-        0b00000 => Form(*b"bltz\0\0", Two(Rs, Imm)),
-        0b00001 => Form(*b"bgez\0\0", Two(Rs, Imm)),
-        0b00010.. => Form(*b"ill\0\0\0", None),
+        0b00000 => Form(mnemonics::BLTZ, Two(Rs, Imm)),
+        0b00001 => Form(mnemonics::BGEZ, Two(Rs, Imm)),
+        0b00010.. => Form(mnemonics::ILL, None),
     }
 }
 
@@ -106,42 +107,42 @@ pub fn form(w: u32) -> Form
     match opcode {
         0b000000 => special(w % 64),
         0b000001 => sign_branch(rt),
-        0b000010 => Form(*b"j\0\0\0\0\0", One(Iindex)),
-        0b000011 => Form(*b"jal\0\0\0", One(Iindex)),
-        0b000100 => Form(*b"beq\0\0\0", Three(Rs, Rt, Imm)),
-        0b000101 => Form(*b"bne\0\0\0", Three(Rs, Rt, Imm)),
+        0b000010 => Form(mnemonics::J, One(Iindex)),
+        0b000011 => Form(mnemonics::JAL, One(Iindex)),
+        0b000100 => Form(mnemonics::BEQ, Three(Rs, Rt, Imm)),
+        0b000101 => Form(mnemonics::BNE, Three(Rs, Rt, Imm)),
         0b000110 => {
             if rt == 0 {
-                Form(*b"blez\0\0", Two(Rs, Imm))
+                Form(mnemonics::BLEZ, Two(Rs, Imm))
             } else {
-                Form(*b"ill\0\0\0", None)
+                Form(mnemonics::ILL, None)
             }
         }
         0b000111 => {
             if rt == 0 {
-                Form(*b"bgtz\0\0", Two(Rs, Imm))
+                Form(mnemonics::BGTZ, Two(Rs, Imm))
             } else {
-                Form(*b"ill\0\0\0", None)
+                Form(mnemonics::ILL, None)
             }
         }
-        0b001000 => Form(*b"addi\0\0", Three(Rt, Rs, Imm)),
-        0b001001 => Form(*b"addiu\0", Three(Rt, Rs, Imm)),
-        0b001010 => Form(*b"slti\0\0", Three(Rt, Rs, Imm)),
-        0b001011 => Form(*b"sltiu\0", Three(Rt, Rs, Imm)),
-        0b001100 => Form(*b"andi\0\0", Three(Rt, Rs, Uimm)),
-        0b001101 => Form(*b"ori\0\0\0", Three(Rt, Rs, Uimm)),
-        0b001110 => Form(*b"xori\0\0", Three(Rt, Rs, Uimm)),
-        0b001111 => Form(*b"lui\0\0\0", Two(Rt, Uimm)),
+        0b001000 => Form(mnemonics::ADDI, Three(Rt, Rs, Imm)),
+        0b001001 => Form(mnemonics::ADDIU, Three(Rt, Rs, Imm)),
+        0b001010 => Form(mnemonics::SLTI, Three(Rt, Rs, Imm)),
+        0b001011 => Form(mnemonics::SLTIU, Three(Rt, Rs, Imm)),
+        0b001100 => Form(mnemonics::ANDI, Three(Rt, Rs, Uimm)),
+        0b001101 => Form(mnemonics::ORI, Three(Rt, Rs, Uimm)),
+        0b001110 => Form(mnemonics::XORI, Three(Rt, Rs, Uimm)),
+        0b001111 => Form(mnemonics::LUI, Two(Rt, Uimm)),
         0b010000 => coprocessor(w % 64, (w >> 21) % 32),
         0b011100 => multiplication(w % 64),
-        0b100000 => Form(*b"lb\0\0\0\0", Three(Rt, Rs, Imm)),
-        0b100001 => Form(*b"lh\0\0\0\0", Three(Rt, Rs, Imm)),
-        0b100011 => Form(*b"lw\0\0\0\0", Three(Rt, Rs, Imm)),
-        0b100100 => Form(*b"lbu\0\0\0", Three(Rt, Rs, Imm)),
-        0b100101 => Form(*b"lhu\0\0\0", Three(Rt, Rs, Imm)),
-        0b101000 => Form(*b"sb\0\0\0\0", Three(Rt, Rs, Imm)),
-        0b101001 => Form(*b"sh\0\0\0\0", Three(Rt, Rs, Imm)),
-        0b101011 => Form(*b"sw\0\0\0\0", Three(Rt, Rs, Imm)),
-        0b010001.. => Form(*b"ill\0\0\0", None),
+        0b100000 => Form(mnemonics::LB, Three(Rt, Rs, Imm)),
+        0b100001 => Form(mnemonics::LH, Three(Rt, Rs, Imm)),
+        0b100011 => Form(mnemonics::LW, Three(Rt, Rs, Imm)),
+        0b100100 => Form(mnemonics::LBU, Three(Rt, Rs, Imm)),
+        0b100101 => Form(mnemonics::LHU, Three(Rt, Rs, Imm)),
+        0b101000 => Form(mnemonics::SB, Three(Rt, Rs, Imm)),
+        0b101001 => Form(mnemonics::SH, Three(Rt, Rs, Imm)),
+        0b101011 => Form(mnemonics::SW, Three(Rt, Rs, Imm)),
+        0b010001.. => Form(mnemonics::ILL, None),
     }
 }

@@ -1,5 +1,6 @@
 // The text of an instruction word, for a debugger (specs/Disassembly.antt).
 mod forms;
+mod mnemonics;
 
 use decode::fields;
 ghost use mathlib.Core.Path.{_≡_};

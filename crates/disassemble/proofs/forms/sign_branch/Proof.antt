@@ -9,15 +9,15 @@ use Rattle.disassemble.proofs.forms.sign_branch.Tie as tie
 
 returns : tie.Need-returns
 unfolding rowOf syntaxOf formOf
-returns c = shown (by-rt (c .before .before .match .keys1))
+returns c = shown (by-rt (c .match .keys1))
 
 returns-2 : tie.Need-returns-2
 unfolding rowOf syntaxOf formOf
-returns-2 c = shown (by-rt (c .before .before .match .keys2))
+returns-2 c = shown (by-rt (c .match .keys2))
 
 returns-3 : tie.Need-returns-3
 unfolding rowOf syntaxOf formOf
-returns-3 c = let n = c .before .before .match .rest in simp (ne-eqb _ _ (n .1), ne-eqb _ _ (n .0 .1))
+returns-3 c = let n = c .match .rest in simp (ne-eqb _ _ (n .1), ne-eqb _ _ (n .0 .1))
 
 pub sign-branch-spec : {M : Type 1} → statement M
 sign-branch-spec =
