@@ -1,4 +1,4 @@
--- The numbers of reach, apart and translate fit a word.
+-- The numbers of reach, apart, translate and disassemble fit a word.
 -- Assumes nothing.
 use mathlib.Core.Path.{_≡_, refl}
 use mathlib.Core.Bool.{Bool, true, false, not}
@@ -15,6 +15,8 @@ use Rattle.separation.specs.declared.Verdict.{Verdict}
 use Rattle.separation.specs.declared.Verdict.the-variants as say
 use Rattle.separation.specs.Apart.{apart, apartOn, verdictNumber}
 use Rattle.translate.specs.Translate.{translateOn, translatedNumber}
+use Rattle.disassemble.specs.Disassembly.{disassembleOn, disassembledNumber}
+use Rattle.disassemble.proofs.Rows.{text-fits}
 
 pub reached-fits : (g : ℕ) (t m r : List ℕ) → reachedNumber (reachOn g t m r .answer) < 2 ^ 32
 unfolding reachOn
@@ -50,6 +52,14 @@ translated-fits k l t m r =
     go true true false d p q s u = rw (p, q, s) (omega arith)
     go true false c d p q s u = rw (p, q) (omega arith)
     go false b c d p q s u = rw p (omega arith)
+
+pub disassembled-fits : (w : ℕ) (b : List ℕ) → disassembledNumber (disassembleOn w b .answer) < 2 ^ 32
+unfolding disassembleOn
+disassembled-fits w b = go (eqb (length b) 32) refl
+  where
+    go : (e : Bool) → eqb (length b) 32 ≡ e → disassembledNumber (disassembleOn w b .answer) < 2 ^ 32
+    go true p = rw p (omega (arith, text-fits w))
+    go false p = rw p (omega arith)
 
 -- 1 is the number of a yes
 pub yes-number : (v : Verdict) → verdictNumber v ≡ 1 → v ≡ say.Yes

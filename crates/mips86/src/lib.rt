@@ -1,5 +1,6 @@
-// The interface for C and Rust (include/mips86.h): make, step, run, reach, apart, why and translate on lent tables and memory. A slice is a pointer and
-// a length in C, and each operation answers one number; run, reach and translate write one more word, why nine.
+// The interface for C and Rust (include/mips86.h): make, step, run, reach, apart, why and translate on lent tables and memory, and disassemble on a word. A slice
+// is a pointer and a length in C, and each operation answers one number; run, reach and translate write one more word, why nine.
+use disassemble::Disassembled;
 use machine::run::Stop;
 use reach::Reached;
 use separation::Verdict;
@@ -18,6 +19,7 @@ ghost use Rattle.separation.specs.Apart.{apartOn, verdictNumber};
 ghost use Rattle.separation.specs.Separation.{machineOf, Promised};
 ghost use Rattle.reasons.specs.Why.{told};
 ghost use Rattle.translate.specs.Translate.{translateOn, translatedNumber, readsOf};
+ghost use Rattle.disassemble.specs.Disassembly.{disassembleOn, disassembledNumber};
 ghost use Rattle.mips86.specs.Numbers.{madeNumber, refusalOr0};
 
 fn made_number(a: Made) -> u32
@@ -202,4 +204,23 @@ pub extern "C" fn mips86_translate(
     let r = translate::translate(tables, memory, core, addresses, answers);
     *reads = reads_number(r);
     translated_number(r)
+}
+
+fn disassembled_number(a: Disassembled) -> u32
+    requires { ⌜ disassembledNumber a < 2 ^ 32 ⌝ }
+    ensures { λ r. ⌜ r ≡ disassembledNumber a ⌝ }
+{
+    match a {
+        Disassembled::Length(n) => n,
+        Disassembled::Refused(n) => 100 + n,
+    }
+}
+
+// The text of an instruction word in 32 bytes, zero beyond it: its length, or 100 and the number of a refusal.
+#[no_mangle]
+pub extern "C" fn mips86_disassemble(word: u32, text: &mut [u8]) -> u32
+    ensures { λ r. ⌜ r ≡ disassembledNumber (disassembleOn word (now (text .entry)) .answer) ⌝ }
+    ensures { λ _. ⌜ now (text .exit) ≡ disassembleOn word (now (text .entry)) .text ⌝ }
+{
+    disassembled_number(disassemble::disassemble(word, text))
 }
