@@ -1,12 +1,13 @@
-// Replays the vectors of the independent simulator (oracle/README.md says how they stand in the files) through machine::step and machine::run, and those
-// about groups through reach and apart, those about addresses through translate, and compares each answer, each check sum and each map. Standard input is
-// oracle/vectors/steps.bin and, after it, groups.bin and translations.bin. Prints a line for each difference, and the counts of answers: those that
-// oracle/README.md prints.
+// Replays the vectors of the independent simulator (oracle/README.md says how they stand in the files) through machine::step and machine::run, those
+// about groups through reach and apart, those about addresses through translate and those about words through disassemble, and compares each answer, each
+// check sum, each map and each text. Standard input is steps.bin, groups.bin, translations.bin and texts.bin of oracle/vectors, one after the other. Prints a line
+// for each difference, and the counts of answers: those that oracle/README.md prints.
 mod groups;
 mod input;
 mod machines;
 mod replay;
 mod report;
+mod texts;
 mod translations;
 
 use input::Vector;
@@ -15,12 +16,14 @@ ghost use mathlib.Core.Path.{_≡_};
 ghost use Prim.Native.Nat.{_≤_};
 ghost use lib.ListN.{length};
 
-// 'M86S', 'M86G' and 'M86T', low byte first.
+// 'M86S', 'M86G', 'M86T' and 'M86D', low byte first.
 const STEPS_FILE: u32 = 0x5336_384D;
 
 const GROUPS_FILE: u32 = 0x4736_384D;
 
 const TRANSLATIONS_FILE: u32 = 0x5436_384D;
+
+const TEXTS_FILE: u32 = 0x4436_384D;
 
 // What was read of a vector is replayed twice: its steps one by one on the machine, and its run on a copy of the machine.
 fn compare(
@@ -121,5 +124,6 @@ fn main() {
     vectors(file(STEPS_FILE), &mut tally);
     machines::all(About::Groups, file(GROUPS_FILE), &mut tally);
     machines::all(About::Addresses, file(TRANSLATIONS_FILE), &mut tally);
+    texts::all(file(TEXTS_FILE), &mut tally);
     report::all(&tally);
 }

@@ -1,4 +1,5 @@
 // What is counted, and the lines that are printed.
+use disassemble::Disassembled;
 use libc::STDOUT_FILENO;
 use machine::run::Stop;
 use reach::Reached;
@@ -56,7 +57,13 @@ pub const TRANSLATE_DONE: usize = 135;
 
 pub const TRANSLATE_REFUSALS: usize = 136;
 
-pub const TALLY: usize = 156;
+pub const TEXTS: usize = 156;
+
+pub const TEXT_DONE: usize = 157;
+
+pub const TEXT_REFUSALS: usize = 158;
+
+pub const TALLY: usize = 178;
 
 // So many more at a place.
 fn add(tally: &mut [u32], place: usize, n: u32) {
@@ -165,6 +172,14 @@ pub fn translated(tally: &mut [u32], a: Translated, n: u32) {
     }
 }
 
+pub fn disassembled(tally: &mut [u32], a: Disassembled) {
+    count(tally, TEXTS);
+    match a {
+        Disassembled::Length(_) => count(tally, TEXT_DONE),
+        Disassembled::Refused(number) => count(tally, TEXT_REFUSALS + numbered(number)),
+    }
+}
+
 // ---- the lines at the end
 
 fn row(name: &[u8], n: u32) {
@@ -227,5 +242,8 @@ pub fn all(tally: &[u32]) {
         counted(tally, TRANSLATE_REFUSALS + 4),
     );
     rows(b"translate refused ", tally, TRANSLATE_REFUSALS, 14, 17);
+    row(b"texts ", counted(tally, TEXTS));
+    row(b"texts answered ", counted(tally, TEXT_DONE));
+    row(b"texts refused 17 ", counted(tally, TEXT_REFUSALS + 17));
     row(b"differences ", counted(tally, DIFFERENCES));
 }
