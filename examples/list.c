@@ -5,7 +5,8 @@
  *
  * Standard input is the page, 4,096 bytes, words low byte first. PAGE, decimal, says which page it is (0 if not given).
  * Of three or more equal words in a row the first is listed, and a line `*` stands for the others.
- * Status 1, with one line on standard error and no listing, where the argument or the input is wrong.
+ * Status 1, with one line on standard error and no listing, where the argument or the input is wrong; status 1 too where
+ * the listing cannot be written.
  */
 #include "mips86.h"
 

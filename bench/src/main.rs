@@ -1,10 +1,12 @@
 //! Times the proved machine beside the plain simulator (`../oracle`) in one process, on the same machines: schedules of
-//! steps, maps on which reach and apart answer, and addresses that translate follows. With an argument only those whose
-//! name holds it. See docs/PERFORMANCE.md.
+//! steps, maps on which reach and apart answer, addresses that translate follows, and words that disassemble shows. With
+//! an argument only those whose name holds it; with the argument `every word` the texts of all words are compared. See
+//! docs/PERFORMANCE.md.
 
 mod addresses;
 mod maps;
 mod schedules;
+mod words;
 
 use schedules::Case;
 use std::hint::black_box;
@@ -250,9 +252,24 @@ fn time_translate(case: &addresses::Case) {
     println!("  one call to 64 calls: proved {:.3}, plain {:.3}", ratio(0, 2), ratio(1, 3));
 }
 
+fn time_disassemble() {
+    let (words, proved, plain) = words::times();
+    let (proved, plain) = (time(proved), time(plain));
+    let ratio = proved.median / plain.median;
+    println!("\ndisassemble, nanoseconds a word, best / median; {words} words");
+    println!(
+        "  proved {:.1} / {:.1}   plain {:.1} / {:.1}   ratio {ratio:.2}",
+        proved.best, proved.median, plain.best, plain.median
+    );
+}
+
 fn main() {
     let mut missed = Missed::default();
     let part = std::env::args().nth(1).unwrap_or_default();
+    if part == "every word" {
+        println!("{} words, all with the same text", words::compare_all());
+        return;
+    }
     println!("nanoseconds a step, best / median of {REPEATS} repeats of 1,024 steps; ratios of the medians");
     for case in [schedules::system(), schedules::user(), schedules::tlb()] {
         if case.name.contains(&part) {
@@ -275,6 +292,9 @@ fn main() {
         if case.name.contains(&part) {
             time_translate(&case);
         }
+    }
+    if "disassemble".contains(&part) {
+        time_disassemble();
     }
     println!();
     for m in &missed.0 {

@@ -47,21 +47,21 @@ pub fn disassemble(word: u32, text: &mut [u8]) -> Result<usize, u32> {
         return Err(17);
     }
     text.fill(0);
-    let mut pen = Pen { text, at: 0 };
+    let mut writer = Writer { text, at: 0 };
     match isa::decode(word) {
-        None => pen.put(ILLEGAL.as_bytes()),
-        Some(op) => pen.instruction(op, word),
+        None => writer.put(ILLEGAL.as_bytes()),
+        Some(op) => writer.instruction(op, word),
     }
-    Ok(pen.at)
+    Ok(writer.at)
 }
 
 /// A text so far.
-struct Pen<'a> {
+struct Writer<'a> {
     text: &'a mut [u8],
     at: usize,
 }
 
-impl Pen<'_> {
+impl Writer<'_> {
     fn put(&mut self, bytes: &[u8]) {
         self.text[self.at..self.at + bytes.len()].copy_from_slice(bytes);
         self.at += bytes.len();

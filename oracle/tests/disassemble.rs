@@ -176,7 +176,7 @@ fn by_pattern(word: u32) -> String {
     text
 }
 
-/// A word for each row, each illegal code and any bits: `count` in all.
+/// Words of each row, such words with a bit turned, and any words: `count` in all.
 fn each_kind(seed: u64, count: usize, mut look: impl FnMut(&mut Rng, u32)) {
     let mut rng = Rng::new(seed);
     let forms = forms();
@@ -315,7 +315,7 @@ fn the_rest_is_zero() {
 #[test]
 fn as_the_patterns_say() {
     each_kind(1, 400_000, |_, word| assert_eq!(text(word), by_pattern(word), "{word:08X}"));
-    // Every opcode with every rs, rt and function code.
+    // Every opcode with every rs and rt; where rows print a function code, with every one.
     for opcode in 0..64 {
         for rs in 0..32 {
             for rt in 0..32 {

@@ -135,8 +135,8 @@ fn texts_are_as_the_file_says() {
 }
 
 /// Each thing that can occur does so twenty times, sums and translations 24
-/// times, texts as often as is told with them, and README.md has the tables
-/// that `oracle counts` prints.
+/// times, texts as often as README.md says above their tables, and README.md
+/// has the tables that `oracle counts` prints.
 #[test]
 fn counts() {
     let mut counts = Counts::default();

@@ -2,7 +2,7 @@
 
 use crate::{c, REFUSED, TEXT_BYTES};
 
-/// The text of an instruction word, in a buffer of any length; see [`disassemble`]. The error is the number of the
+/// The text of an instruction word, in a lent slice; see [`disassemble`]. The error is the number of the
 /// refusal, 17 where the buffer is not of 32 bytes, which leaves it.
 ///
 /// ```

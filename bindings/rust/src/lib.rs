@@ -2,10 +2,10 @@
 //! group of cores reaches, whether the group is kept apart from the others, and why it is not; where virtual addresses
 //! of a core lead; the text of an instruction word.
 //!
-//! [`Machine`] owns a machine's tables and memory; the functions are for a caller who lends them. All of the machine is
-//! in the two: nothing is kept between calls. Every call is safe with any words and bytes, since the functions ask
-//! nothing but sound references. What each operation does to the tables and the memory is proved in Rattle
-//! (crates/mips86); `../../include/mips86.h` has the layout, the kinds of step and the refusals in short.
+//! [`Machine`] owns a machine's tables and memory; the functions are for a caller who lends them, and those of texts need
+//! no machine. All of a machine is in the two: nothing is kept between calls. Every call is safe with any words and
+//! bytes, since the functions ask nothing but sound references. What each operation answers and does to what it is lent
+//! is proved in Rattle (crates/mips86); `../../include/mips86.h` has the layout, the kinds of step and the refusals in short.
 
 mod disassemble;
 mod machine;

@@ -268,15 +268,15 @@ fn named_fields() {
     }
 }
 
-/// All codes that a row can print, with other bits at random; and any words.
+/// All opcodes and function codes with all codes of rs, of rt and of both alike, and other bits at random; and any words.
 #[test]
 fn words_by_a_plain_reading() {
     let mut r = Random(17);
     let mut illegal = 0;
-    for code in 0..1 << 16 {
+    for code in 0..1 << 17 {
         // opcode, rs or rt, function code
-        let (high, low) = (code >> 10 << 26, code & 0b11_1111);
-        let register = code >> 6 & 0b1111 | r.word() & 0b1_0000;
+        let (high, low) = (code >> 11 << 26, code & 0b11_1111);
+        let register = code >> 6 & 0b1_1111;
         let rest = r.word() & (bits("rd") | bits("sa"));
         for register in [register << 21, register << 16, register << 21 | register << 16] {
             let word = high | register | rest | low;
@@ -286,7 +286,7 @@ fn words_by_a_plain_reading() {
         assert_eq!(text_of(word), plain(word), "{word:08x}");
         illegal += (plain(word) == "ill") as u32;
     }
-    assert!((20_000..50_000).contains(&illegal), "{illegal}");
+    assert!((40_000..100_000).contains(&illegal), "{illegal}");
 }
 
 #[test]

@@ -1,7 +1,7 @@
 // Replays the vectors of the independent simulator (oracle/README.md says how they stand in the files) through machine::step and machine::run, those
 // about groups through reach and apart, those about addresses through translate and those about words through disassemble, and compares each answer, each
 // check sum, each map and each text. Standard input is steps.bin, groups.bin, translations.bin and texts.bin of oracle/vectors, one after the other. Prints a line
-// for each difference, and the counts of answers: those that oracle/README.md prints.
+// for each difference, and the counts of answers, to be held against those of oracle/README.md.
 mod groups;
 mod input;
 mod machines;

@@ -14,7 +14,7 @@ use Rattle.disassemble.specs.Disassembly.{syntaxOf, disassembly, disasse
 use Rattle.disassemble.specs.inner.Forms.{formOf, formText}
 use Rattle.disassemble.proofs.Rows.{form-text, text-fits}
 
-pub refused : (w : ℕ) (b : List ℕ) → (length b ≡ 32 → ⊥) → (Refused 17 ≡ disassembleOn w b .answer) × (b ≡ disassembleOn w b .text)
+pub refused : (w : ℕ) (b : List ℕ) → (length b ≡ 32 → ⊥) → (Refused 17 ≡ disassembleOn w b .answer) × (b ≡ disassembleOn w b .bytes)
 unfolding disassembleOn
 refused w b n = rw (ne-eqb (length b) 32 n) (refl, refl)
 
@@ -28,7 +28,7 @@ form-fits w e = omega (arith, ap length (form-found w e), text-fits w)
 
 pub written :
     {l : Form} {b c d : List ℕ} {n : ℕ} (w : ℕ) → length b ≡ 32 → l ≡ formOf (syntaxOf (decoded w)) → Put b 0 (formText l w) n c
-    → d ≡ take n c ++ replicate (length c - n) 0 → (Length n ≡ disassembleOn w b .answer) × (d ≡ disassembleOn w b .text)
+    → d ≡ take n c ++ replicate (length c - n) 0 → (Length n ≡ disassembleOn w b .answer) × (d ≡ disassembleOn w b .bytes)
 unfolding disassembleOn
 written {l} {b} {c} {d} {n} w h f p e =
     let k : n ≡ length (disassembly w) = omega (arith, p .place, ap length (form-found w f)) in

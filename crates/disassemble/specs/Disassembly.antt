@@ -164,14 +164,14 @@ SameFields (o ∷ l) v w = (fieldOf o v ≡ fieldOf o w) × SameFields l v w
 
 -- ---- the operation: the text in a buffer of 32 bytes, zero beyond it, and its length; or 17, and nothing is written
 
-pub record Listing : Type 0 where
+pub record TextAnswer : Type 0 where
   pub answer : Disassembled
-  pub text : List ℕ
+  pub bytes : List ℕ
 
-unfoldable pub disassembleOn : ℕ → List ℕ → Listing
+unfoldable pub disassembleOn : ℕ → List ℕ → TextAnswer
 disassembleOn w b =
-    if not (eqb (length b) 32) then record { answer = Refused 17; text = b }
-    else record { answer = Length (length (disassembly w)); text = disassembly w ++ replicate (32 - length (disassembly w)) 0 }
+    if not (eqb (length b) 32) then record { answer = Refused 17; bytes = b }
+    else record { answer = Length (length (disassembly w)); bytes = disassembly w ++ replicate (32 - length (disassembly w)) 0 }
 
 -- the number for each answer: the length, or 100 and the number of a refusal
 abbrev pub disassembledNumber : Disassembled → ℕ

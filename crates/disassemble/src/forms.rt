@@ -1,4 +1,6 @@
-// The row of tables 1 to 4 that a word meets, as it is shown: by opcode and function code and, where the tables print one, by rs or rt.
+// The row of tables 1 to 4 that a word meets, as it is shown: by opcode and function code and, where the tables print one, by rs or rt. 01 asks for a mnemonic
+// chosen so, which is why the decoder is not asked; both are held to the same tables. The range at the end of a match begins at the first code that no row has,
+// and takes every code that no arm before it has.
 use super::Form;
 use super::Operand::Iindex;
 use super::Operand::Imm;

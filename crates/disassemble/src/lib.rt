@@ -13,7 +13,7 @@ ghost use Rattle.disassemble.specs.Disassembly as d;
 ghost use Rattle.disassemble.specs.inner.Forms.{letters, asList, formText};
 
 // What an instruction's syntax names: a register, the shift amount, the immediate, signed or unsigned, or the jump index.
-pub enum Operand {
+enum Operand {
     Rs,
     Rt,
     Rd,
@@ -31,7 +31,7 @@ enum OperandList {
     Three(Operand, Operand, Operand),
 }
 
-// How an instruction is shown: its mnemonic, zero behind it, and its operands.
+// How an instruction is shown: its mnemonic, filled up with zeros to six bytes, and its operands.
 struct Form([u8; 6], OperandList);
 
 // The length of the text, or the number of a refusal.
@@ -41,16 +41,16 @@ pub enum Disassembled {
 }
 
 // Puts the bytes before the first zero at the front.
-fn put_mnemonic(text: &mut [u8], name: &[u8]) -> usize
-    requires { ⌜ length (letters (now name)) ≤ length (now text) ⌝ }
-    ensures { λ r. ⌜ Put (now (text .entry)) 0 (letters (now (name .entry))) r (now (text .exit)) ⌝ }
+fn put_mnemonic(text: &mut [u8], mnemonic: &[u8]) -> usize
+    requires { ⌜ length (letters (now mnemonic)) ≤ length (now text) ⌝ }
+    ensures { λ r. ⌜ Put (now (text .entry)) 0 (letters (now (mnemonic .entry))) r (now (text .exit)) ⌝ }
 {
     let mut n: usize = 0;
-    while n < name.len() {
-        if name[n] == 0 {
+    while n < mnemonic.len() {
+        if mnemonic[n] == 0 {
             return n;
         }
-        text[n] = name[n];
+        text[n] = mnemonic[n];
         n += 1;
     }
     n
@@ -126,9 +126,9 @@ fn put_form(text: &mut [u8], l: Form, w: u32) -> usize
     requires { ⌜ length (formText l w) ≤ length (now text) ⌝ }
     ensures { λ r. ⌜ Put (now (text .entry)) 0 (formText l w) r (now (text .exit)) ⌝ }
 {
-    let name = l.0;
+    let mnemonic = l.0;
     let operands = l.1;
-    let p = put_mnemonic(text, &name);
+    let p = put_mnemonic(text, &mnemonic);
     put_operands(text, p, operands, w)
 }
 
@@ -147,7 +147,7 @@ fn clear(text: &mut [u8], from: usize)
 // Puts the text of a word into 32 bytes, zero beyond it, and answers its length. Refused if the bytes lent are not 32 (17).
 pub fn disassemble(w: u32, text: &mut [u8]) -> Disassembled
     ensures { λ r. ⌜ r ≡ d.disassembleOn w (now (text .entry)) .answer ⌝ }
-    ensures { λ _. ⌜ now (text .exit) ≡ d.disassembleOn w (now (text .entry)) .text ⌝ }
+    ensures { λ _. ⌜ now (text .exit) ≡ d.disassembleOn w (now (text .entry)) .bytes ⌝ }
 {
     if text.len() != 32 {
         return Disassembled::Refused(17);

@@ -1,4 +1,4 @@
-// The mnemonics of tables 1 to 4 in their order, and the text of an illegal word, zero behind them.
+// The mnemonics of tables 1 to 4 in their order, and the text of an illegal word, filled up with zeros to six bytes.
 pub const LB: [u8; 6] = *b"lb\0\0\0\0";
 
 pub const LH: [u8; 6] = *b"lh\0\0\0\0";

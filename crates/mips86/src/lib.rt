@@ -1,5 +1,5 @@
-// The interface for C and Rust (include/mips86.h): make, step, run, reach, apart, why and translate on lent tables and memory, and disassemble on a word. A slice
-// is a pointer and a length in C, and each operation answers one number; run, reach and translate write one more word, why nine.
+// The interface for C and Rust (include/mips86.h): make, step, run, reach, apart, why and translate on lent tables and memory, and disassemble on a word and
+// lent bytes. A slice is a pointer and a length in C, and each operation answers one number; run, reach and translate write one more word, why nine.
 use disassemble::Disassembled;
 use machine::run::Stop;
 use reach::Reached;
@@ -220,7 +220,7 @@ fn disassembled_number(a: Disassembled) -> u32
 #[no_mangle]
 pub extern "C" fn mips86_disassemble(word: u32, text: &mut [u8]) -> u32
     ensures { λ r. ⌜ r ≡ disassembledNumber (disassembleOn word (now (text .entry)) .answer) ⌝ }
-    ensures { λ _. ⌜ now (text .exit) ≡ disassembleOn word (now (text .entry)) .text ⌝ }
+    ensures { λ _. ⌜ now (text .exit) ≡ disassembleOn word (now (text .entry)) .bytes ⌝ }
 {
     disassembled_number(disassemble::disassemble(word, text))
 }

@@ -15,6 +15,15 @@ use Rattle.text.specs.Text.{decimalIn, decimal}
 
 -- ---- how long it is
 
+pub decimal-length : (f n : ℕ) → length (decimalIn f n) ≤ f
+unfolding decimalIn
+decimal-length zero n = omega arith
+decimal-length (suc f) n = go (ltb n 10) (decimal-length f (n / 10))
+  where
+    go : (b : Bool) → length (decimalIn f (n / 10)) ≤ f → length (if b then glyph n ∷ [] else decimalIn f (n / 10) ++ (glyph (n % 10) ∷ [])) ≤ suc f
+    go true h = omega arith
+    go false h = omega (arith, length-append (decimalIn f (n / 10)) (glyph (n % 10) ∷ []))
+
 pub decimal-short : (f k n : ℕ) → 0 < k → n < 10 ^ k → length (decimalIn f n) ≤ k
 unfolding decimalIn
 decimal-short zero k n h l = omega arith

@@ -1,7 +1,7 @@
 -- Laws of texts in a buffer: one byte more, one text after another, and the digits of a number.
 -- Assumes nothing.
 use mathlib.Core.Path.{_≡_, refl, sym, ap, _∙_, subst}
-use mathlib.Core.Bool.{Bool, true, false}
+use mathlib.Core.Bool.{Bool}
 use mathlib.Core.Logic.{⊎-elim}
 use mathlib.Core.List.{List, [], _∷_, _++_, append-assoc, append-nil}
 use Prim.Native.Nat.{ℕ, zero, suc, _+_, _-_, _/_, _%_, _^_, _≤_, _<_, min, max}
@@ -10,7 +10,6 @@ use native.Mathlib.Numerals.{add-one}
 use native.Mathlib.Omega.{arith}
 use lib.ListN.{length, take, drop, getD, set, length-append, length-set}
 use lib.Seq.{take-suc, take-suc-set, length-take-le, take-all, drop-set-lt, drop-drop}
-use lib.Dec.{ltb}
 use borrow.Author.Tests.{lt-ltb, le-ltb}
 use Rattle.io.specs.Counts.{Counts}
 use Rattle.io.specs.Digits.{digits, glyph, Fewest}
@@ -78,15 +77,6 @@ few n k h (l, s, g) =
     ⊎-elim (λ (u : k < 21). omega arith)
     (λ (u : 21 ≤ k). absurd (omega (arith, g (omega arith), pow-le-pow-right {n = 10} (omega arith) {i = 20} {j = k - 1} (omega arith))))
     (side k 21)
-
-pub decimal-length : (f n : ℕ) → length (decimalIn f n) ≤ f
-unfolding decimalIn
-decimal-length zero n = omega arith
-decimal-length (suc f) n = go (ltb n 10) (decimal-length f (n / 10))
-  where
-    go : (b : Bool) → length (decimalIn f (n / 10)) ≤ f → length (if b then glyph n ∷ [] else decimalIn f (n / 10) ++ (glyph (n % 10) ∷ [])) ≤ suc f
-    go true h = omega arith
-    go false h = omega (arith, length-append (decimalIn f (n / 10)) (glyph (n % 10) ∷ []))
 
 -- what io::decimal writes is the decimal text
 pub numbered : {x : List ℕ} (n k : ℕ) → n < 2 ^ 64 → x ≡ digits 10 k n → Fewest 10 1 n k → x ≡ decimal n

@@ -1,4 +1,4 @@
--- A row of the column as the code has it: the mnemonic in six bytes, zero behind it, and up to three operands.
+-- A row of the column as the code has it: the mnemonic filled up with zeros to six bytes, and up to three operands.
 -- `form-text` of proofs/Rows says that its text is the row's.
 -- Assumes nothing.
 use mathlib.Core.List.{List, [], _∷_, _++_}
