@@ -207,7 +207,7 @@ uint32_t mips86_translate(const uint32_t *tables, size_t ntables, const uint8_t 
  * shown. An illegal word is `ill`.
  *    00000000 sll r0 r0 0        1022ffff beq r1 r2 -1       0000000c sysc
  *    8c22fffc lw r2 r1 -4        0fffffff jal 67108863       ffffffff ill
- * Answers the length of the text, 3 to 20, or a refusal (17), which writes nothing. The text is ASCII, and all bytes
+ * Answers the length of the text, at most 20, or a refusal (17), which writes nothing. The text is ASCII, and all bytes
  * behind it are zero, so that it is a string of C too. Nothing of a machine is read.
  */
 #define MIPS86_TEXT_BYTES 32

@@ -25,7 +25,7 @@ pub fn disassemble_into(word: u32, text: &mut [u8]) -> Result<&str, u32> {
 /// the order of the assembler syntax, one blank before each. Registers are `r0` to `r31`, a special one too (rd of
 /// movg2s and movs2g). imm is in signed decimal, but unsigned for andi, ori, xori and lui; sa and iindex are unsigned.
 /// imm of a branch and iindex of a jump are the fields themselves, not times four. Fields that the syntax does not name
-/// are not shown. An illegal word is `ill`. The buffer has the text, 3 to 20 bytes, and zeros behind it. Nothing is
+/// are not shown. An illegal word is `ill`. The buffer has the text, at most 20 bytes, and zeros behind it. Nothing is
 /// allocated.
 ///
 /// ```
