@@ -1,4 +1,5 @@
 pub mod Least
+pub mod Zeros
 pub mod Words
 pub mod Events
 pub mod Registers

@@ -1,16 +1,19 @@
 -- The lowest vector of a register, word by word.
 -- Assumes nothing.
-use mathlib.Core.Path.{_≡_, refl, sym, ap₂, _∙_, subst}
+use mathlib.Core.Path.{_≡_, refl, sym, ap, ap₂, _∙_, subst}
 use mathlib.Core.List.{List}
 use mathlib.Core.Logic.{⊎-elim}
-use Prim.Native.Nat.{ℕ, _+_, _*_, _/_, _%_, _≤_, _<_}
+use Prim.Native.Nat.{ℕ, _+_, _*_, _/_, _%_, _^_, _≤_, _<_}
 use native.Mathlib.Omega.{arith}
+use lib.Count.{trailingZeros}
 use lib.ListN.{getD}
 use Rattle.word.proofs.Laws.{side}
-use Rattle.apic.specs.declared.vectors.Found.the-variants.{Vector, None}
+use Rattle.word.proofs.Bits.{bit-zero}
 use Rattle.word.specs.Word.{bit}
-use Rattle.apic.specs.Vectors.{bitAt, least, lowest}
-use Rattle.apic.proofs.Least.{Unset, found-at, set-below, set-there, unset-below, unset-all}
+use Rattle.apic.specs.declared.vectors.Found.the-variants.{Vector}
+use Rattle.apic.specs.Vectors.{bitAt, lowest}
+use Rattle.apic.proofs.Least.{Unset, found-at}
+use Rattle.apic.proofs.Zeros.{zeros-clear, zeros-set}
 
 module _ (b : List ℕ) (p i : ℕ) where
   abbrev word : ℕ → ℕ
@@ -27,14 +30,17 @@ module _ (b : List ℕ) (p i : ℕ) where
       (side k (32 * i))
 
   module _ (before : Unset (λ (k : ℕ). bitAt b p k) (32 * i)) where
-    pub word-clear : least word 32 0 ≡ None → Unset (λ (k : ℕ). bitAt b p k) (32 * (i + 1))
-    word-clear e =
+    pub word-clear : getD b (p + i) 0 ≡ 0 → Unset (λ (k : ℕ). bitAt b p k) (32 * (i + 1))
+    word-clear z =
         let n : 32 * i + 32 ≡ 32 * (i + 1) = omega arith in
-        subst (λ (m : ℕ). Unset (λ (k : ℕ). bitAt b p k) m) n (clear-part 32 (omega arith) before (unset-all word 32 e))
+        let c : Unset word 32 = λ k l e. let o : word k ≡ 0 = ap (λ (w : ℕ). bit w k) z ∙ bit-zero k in omega arith in
+        subst (λ (m : ℕ). Unset (λ (k : ℕ). bitAt b p k) m) n (clear-part 32 (omega arith) before c)
 
-    pub word-found : (v : ℕ) → i < 8 → least word 32 0 ≡ Vector v → lowest b p ≡ Vector (32 * i + v)
-    word-found v l e =
-        let h : v < 32 = set-below word 32 v e in
-        found-at (λ (k : ℕ). bitAt b p k) 256 (32 * i + v) (omega arith)
-        (in-word (32 * i + v) v (omega arith) (omega arith) ∙ set-there word 32 v e)
-        (clear-part v (omega arith) before (unset-below word 32 v e))
+    pub word-found : i < 8 → 0 < getD b (p + i) 0 → getD b (p + i) 0 < 2 ^ 32 → lowest b p ≡ Vector (32 * i + trailingZeros 32 (getD b (p + i) 0))
+    word-found l h m =
+        let w = getD b (p + i) 0 in
+        let v = trailingZeros 32 w in
+        let s = zeros-set 32 w h m in
+        found-at (λ (k : ℕ). bitAt b p k) 256 (32 * i + v) (omega (arith, s .0))
+        (in-word (32 * i + v) v (omega (arith, s .0)) (omega (arith, s .0)) ∙ s .1)
+        (clear-part v (omega (arith, s .0)) before (zeros-clear 32 w))

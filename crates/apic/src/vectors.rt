@@ -11,24 +11,7 @@ pub enum Found {
     None,
 }
 
-// The lowest bit that is set in a word.
-fn lowest_bit(w: u32) -> Found
-    ensures { λ r. ⌜ r ≡ least (λ (i : ℕ). bit w i) 32 0 ⌝ }
-{
-    if w == 0 {
-        return Found::None;
-    }
-    let mut i = 0;
-    while i < 32 {
-        if (w >> i) % 2 == 1 {
-            return Found::Vector(i);
-        }
-        i += 1;
-    }
-    Found::None
-}
-
-// The lowest vector that is set in the register at a place.
+// The lowest vector that is set in the register at a place: the lowest bit of the first word that is not zero.
 pub fn lowest(b: &[u32], place: usize) -> Found
     requires { ⌜ (place < 2 ^ 32) × (place + 8 ≤ length (now b)) ⌝ }
     ensures { λ r. ⌜ r ≡ lowest (now (b .entry)) place ⌝ }
@@ -36,8 +19,10 @@ pub fn lowest(b: &[u32], place: usize) -> Found
     let mut i: u32 = 0;
     while i < 8 {
         let at = place + i as usize;
-        if let Found::Vector(v) = lowest_bit(b[at]) {
-            return Found::Vector(32 * i + v);
+        let w = b[at];
+        if w != 0 {
+            let v = 32 * i + u32::trailing_zeros(w);
+            return Found::Vector(v);
         }
         i += 1;
     }

@@ -1,12 +1,11 @@
 -- `apic::vectors::lowest` meets its contract. The invariant: no vector of the words before word i is set.
-use borrow.Author.Needs.{needs}
-use mathlib.Core.Path.{sym, _∙_}
+use mathlib.Core.Path.{sym}
 use Prim.Native.Nat.{ℕ, _+_, _*_, _-_, _≤_}
 use native.Mathlib.Omega.{arith}
+use lib.Count.{trailing-le}
 use lib.ListN.{getD}
-use Rattle.word.specs.Word.{bit}
 use Rattle.apic.specs.Vectors.{bitAt}
-use Rattle.apic.proofs.Least.{Unset, found-none, set-below}
+use Rattle.apic.proofs.Least.{Unset, found-none}
 use Rattle.apic.proofs.Words.{word-clear, word-found}
 use Rattle.apic.proofs.vectors.lowest.Statement.{statement}
 use Rattle.apic.proofs.vectors.lowest.Tie as tie
@@ -26,35 +25,25 @@ cast-at c = omega arith
 add-at : tie.Need-add-at Inv-loop μ-loop
 add-at c = omega arith
 
-mul-lowest-bit : tie.Need-mul-lowest-bit Inv-loop μ-loop
-mul-lowest-bit c = omega arith
+mul-w : tie.Need-mul-w Inv-loop μ-loop
+mul-w c = omega arith
 
-shared-slice-read-lowest-bit : tie.Need-shared-slice-read-lowest-bit Inv-loop μ-loop
-shared-slice-read-lowest-bit c = omega arith
+shared-slice-read-w : tie.Need-shared-slice-read-w Inv-loop μ-loop
+shared-slice-read-w c = omega arith
 
-lowest-bit-requires : tie.Need-lowest-bit-requires Inv-loop μ-loop
-lowest-bit-requires c κs = search needs
+mul-v : tie.Need-mul-v Inv-loop μ-loop
+mul-v c = omega arith
 
-enum-known-v : tie.Need-enum-known-v Inv-loop μ-loop
-enum-known-v c = search needs
-
-mul-t11 : tie.Need-mul-t11 Inv-loop μ-loop
-mul-t11 c = omega arith
-
-add-t12 : tie.Need-add-t12 Inv-loop μ-loop
-add-t12 c =
-    let a = c .before .before .before .before .before .before .before .before .args in
-    let i = c .before .before .before .before .before .before .loop .i in
-    omega (arith, set-below (λ (k : ℕ). bit (getD (a .b .now) (a .place + i) 0) k) 32 (c .before .v .given .0 .0) (sym (c .before .before .before .lowest-bit .ensures) ∙ c .before .v .given .1))
+add-v : tie.Need-add-v Inv-loop μ-loop
+add-v c =
+    let a = c .before .before .before .before .args in
+    omega (arith, trailing-le 32 (getD (a .b .now) (a .place + c .before .before .before .loop .i) 0))
 
 returns : tie.Need-returns Inv-loop μ-loop
 returns c =
-    let a = c .before .before .before .before .before .before .before .before .args in
-    let l = c .before .before .before .before .before .before .loop in
-    sym (word-found (a .b .now) (a .place) (l .i) (l .inv .1) _ (c .before .before .before .before .before .loop-test .taken) (sym (c .before .before .before .lowest-bit .ensures) ∙ c .before .v .given .1))
-
-enum-told : tie.Need-enum-told Inv-loop μ-loop
-enum-told c = search needs
+    let a = c .before .before .before .before .args in
+    let l = c .before .before .before .loop in
+    sym (word-found (a .b .now) (a .place) (l .i) (l .inv .1) (omega arith) (omega arith) (c .before .shared-slice-known .given (a .place + l .i) .fits))
 
 add-i : tie.Need-add-i Inv-loop μ-loop
 add-i c = omega arith
@@ -64,12 +53,12 @@ loop-less c = omega arith
 
 loop-again : tie.Need-loop-again Inv-loop μ-loop
 loop-again c =
-    let a = c .before .before .before .before .before .before .before .args in
-    let l = c .before .before .before .before .before .loop in
-    (omega arith, word-clear (a .b .now) (a .place) (l .i) (l .inv .1) (sym (c .before .before .lowest-bit .ensures) ∙ c .enum-told .given .1))
+    let a = c .before .before .before .before .args in
+    let l = c .before .before .before .loop in
+    (omega arith, word-clear (a .b .now) (a .place) (l .i) (l .inv .1) (c .if1 .left))
 
 returns-2 : tie.Need-returns-2 Inv-loop μ-loop
-returns-2 c = sym (found-none (λ (k : ℕ). bitAt (c .before .before .before .args .b .now) (c .before .before .before .args .place) k) 256 (λ k l. c .before .loop .inv .1 k (omega arith)))
+returns-2 c = sym (found-none (λ (k : ℕ). bitAt (c .before .before .args .b .now) (c .before .before .args .place) k) 256 (λ k l. c .before .loop .inv .1 k (omega arith)))
 
 pub lowest-spec : {M : Type 1} → statement M
 lowest-spec =
@@ -80,14 +69,11 @@ lowest-spec =
     loop-holds
     cast-at
     add-at
-    mul-lowest-bit
-    shared-slice-read-lowest-bit
-    lowest-bit-requires
-    enum-known-v
-    mul-t11
-    add-t12
+    mul-w
+    shared-slice-read-w
+    mul-v
+    add-v
     returns
-    enum-told
     add-i
     loop-less
     loop-again
