@@ -17,12 +17,15 @@ const PC: usize = BLOCK + 64;
 pub const WALKS: usize = BLOCK + 69;
 pub const FREE: usize = BLOCK + 70;
 pub const RECORDS: usize = BLOCK + 128;
+const SR: usize = 0;
 const EPC: usize = 3;
 pub const PTO: usize = 5;
 pub const MODE: usize = 7;
 
 /// All rights of a walk or an entry.
 pub const RIGHTS: u32 = 7;
+
+const ERET: u32 = 0x10 << 26 | 0x10 << 21 | 0x18;
 
 pub fn machine(cores: usize, pages: usize) -> (Vec<u32>, Vec<u8>) {
     let mut tables = vec![0; mips86::table_words(cores)];
@@ -98,6 +101,18 @@ pub fn system() -> Case {
     Case { name: "system mode: ALU, load, store", tables, memory, schedule }
 }
 
+/// Core 0 of a machine as made holds these walks, in records from 1 on.
+fn hold(tables: &mut [u32], walks: &[[u32; 2]]) {
+    for (k, w) in walks.iter().enumerate() {
+        let at = RECORDS + 4 * (k + 1);
+        tables[at] = if k + 1 < walks.len() { k as u32 + 2 } else { 0 };
+        tables[at + 1] = w[0];
+        tables[at + 2] = w[1];
+    }
+    tables[WALKS] = 1;
+    tables[FREE] = walks.len() as u32 + 1;
+}
+
 /// One core in user mode that holds six walks: code in page 1, data in page 2.
 pub fn user() -> Case {
     let (mut tables, mut memory) = machine(1, 4);
@@ -111,14 +126,7 @@ pub fn user() -> Case {
         [0x20 << 12 | 2 << 3 | RIGHTS, 3],
         [0x31 << 12 | RIGHTS, 3],
     ];
-    for (k, w) in walks.iter().enumerate() {
-        let at = RECORDS + 4 * (k + 1);
-        tables[at] = if k + 1 < walks.len() { k as u32 + 2 } else { 0 };
-        tables[at + 1] = w[0];
-        tables[at + 2] = w[1];
-    }
-    tables[WALKS] = 1;
-    tables[FREE] = walks.len() as u32 + 1;
+    hold(&mut tables, &walks);
     tables[SPR + MODE] = 1;
     tables[PC] = 0x10 << 12;
     tables[BLOCK + 8] = 0x20 << 12;
@@ -135,7 +143,7 @@ pub fn tlb() -> Case {
     let (mut tables, mut memory) = machine(1, 12);
     let entry = |page: u32| page << 12 | 1 << 11 | RIGHTS << 8;
     put(&mut memory, 0, 0x3D); // flush
-    put(&mut memory, 4, 0x10 << 26 | 0x10 << 21 | 0x18); // eret
+    put(&mut memory, 4, ERET);
     tables[SPR + PTO] = 1 << 12;
     tables[SPR + EPC] = FIRST << 12;
     // Page 1 is the first-level table, page 2 the second-level one, page 3 the code, and pages 4 to 9 are data.
@@ -162,4 +170,51 @@ pub fn tlb() -> Case {
     turn.extend([0, 0, code[0], code[1], 0, 0]);
     let schedule = turn.into_iter().cycle().take(6 * STEPS).collect();
     Case { name: "TLB: create, accessed, extend", tables, memory, schedule }
+}
+
+/// The system-mode loop with external interrupts let through (bit 1 of sr): each instruction looks for one, and none is pending.
+pub fn none_pending() -> Case {
+    let mut case = system();
+    case.name = "interrupts let through, none pending";
+    case.tables[SPR + SR] = 1 << 1;
+    case
+}
+
+/// A core in user mode that takes the interrupts of all 24 lines, three vectors in each of the eight words of IRR. In a turn each
+/// line is raised, sampled and delivered. Then for each, the lowest vector first, the core is interrupted; its handler writes EOI,
+/// which leaves the store buffer and is sent; the line is lowered, and the handler returns. Four turns of the program's loop
+/// follow. A turn is 224 steps.
+pub fn interrupts() -> Case {
+    const LINES: u32 = 24;
+    const REDIRECT: usize = 6;
+    let vector = |line: u32| 32 * (line % 8) + (11 * line + 5) % 32;
+    let (mut tables, mut memory) = machine(1, 2);
+    for line in 0..LINES {
+        tables[REDIRECT + line as usize] = vector(line);
+    }
+    let code = [0x10 << 12 | RIGHTS, 1];
+    hold(&mut tables, &[code]);
+    tables[SPR + SR] = 1 << 1;
+    tables[SPR + MODE] = 1;
+    tables[PC] = 0x10 << 12;
+    tables[BLOCK + 8] = 0xFFFF_F000;
+    put(&mut memory, 0, i(0x2B, 0, 8, 0xC)); // sw 0 8 C: EOI
+    put(&mut memory, 4, ERET);
+    put(&mut memory, 0x1000, i(0x08, 1, 1, 1)); // addi 1 1 1
+    put(&mut memory, 0x1004, i(0x04, 0, 0, 0x10000 - 1)); // beq 0 0 -1
+    let step = |kind: u32, number: u32, level: u32| [kind, number, level, 0, 0, 0];
+    let (program, handler) = ([0, 0, code[0], code[1], 0, 0], [0; 6]);
+    let (drain, send_eoi) = (step(4, 0, 0), step(6, 0, 0));
+    let mut turn = Vec::new();
+    for line in 0..LINES {
+        turn.extend([step(11, line, 1), step(9, line, 0), step(10, line, 0)]);
+    }
+    let mut lines: Vec<u32> = (0..LINES).collect();
+    lines.sort_by_key(|&line| vector(line));
+    for line in lines {
+        turn.extend([program, handler, drain, send_eoi, step(11, line, 0), handler]);
+    }
+    turn.extend([program; 8]);
+    let schedule = turn.concat().into_iter().cycle().take(6 * STEPS).collect();
+    Case { name: "interrupts of 24 lines, taken and ended", tables, memory, schedule }
 }

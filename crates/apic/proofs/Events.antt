@@ -11,8 +11,9 @@ use borrow.Author.Tests.{eq-eqb, ne-eqb}
 use Rattle.word.specs.Word.{if_then_else_}
 use Rattle.word.proofs.Laws.{side}
 use Rattle.word.proofs.Truth.{or-true}
+use Rattle.apic.specs.declared.vectors.Found.{Found}
 use Rattle.apic.specs.declared.vectors.Found.the-variants.{Vector, None}
-use Rattle.apic.specs.Vectors.{bitAt, least, lowest}
+use Rattle.apic.specs.Vectors.{bitAt, least, lowest, isNone}
 use Rattle.apic.specs.LocalApic.{isr, irr, someUpTo, event}
 use Rattle.apic.proofs.Least.{Unset, found-at, found-none, set-below, set-there, unset-below, unset-all}
 
@@ -34,6 +35,13 @@ some-yes f (suc j) k l e =
     (λ h. let z : k ≡ suc j = omega arith in rw (eq-eqb (f (suc j)) 1 (ap f (sym z) ∙ e)))
     (side k (suc j))
 
+false-true : false ≡ true → ⊥
+false-true e = subst (λ (t : Bool). if t then ⊥ else Unit {0}) e tt
+
+told-none : (r : Found) → isNone r ≡ true → r ≡ None
+told-none None e = refl
+told-none (Vector v) e = absurd (false-true e)
+
 -- ---- what is in service, f, hides requests, g
 
 module _ (f g : ℕ → ℕ) where
@@ -51,9 +59,6 @@ module _ (f g : ℕ → ℕ) where
   open-at : (v : ℕ) → v < 256 → g v ≡ 1 → Unset g v → Unset f (suc v) → least seen 256 0 ≡ Vector v
   open-at v l e c s =
       found-at seen 256 v l (rw (some-no f v s) e) (unseen v c)
-
-  false-true : false ≡ true → ⊥
-  false-true e = subst (λ (t : Bool). if t then ⊥ else Unit {0}) e tt
 
   -- one is
   shut-at : (v s : ℕ) → s ≤ v → f s ≡ 1 → Unset g v → least seen 256 0 ≡ None
@@ -77,6 +82,9 @@ module _ (b : List ℕ) where
     unfolding event
     event-free s =
         sym (open-at served wanted v (set-below wanted 256 v e) (set-there wanted 256 v e) (unset-below wanted 256 v e) (λ k l. unset-all served 256 s k (omega (arith, set-below wanted 256 v e))))
+
+    pub event-clear : isNone (lowest b isr) ≡ true → Vector v ≡ event b
+    event-clear s = event-free (told-none (lowest b isr) s)
 
     pub event-below : (s : ℕ) → lowest b isr ≡ Vector s → v < s → Vector v ≡ event b
     unfolding event

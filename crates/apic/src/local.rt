@@ -36,6 +36,10 @@ pub fn event(b: &[u32]) -> Found
     let asked = vectors::lowest(b, IRR);
     match asked {
         Found::Vector(v) => {
+            // Most often nothing is in service, which is quickly seen.
+            if vectors::is_clear(b, ISR) {
+                return Found::Vector(v);
+            }
             let served = vectors::lowest(b, ISR);
             match served {
                 Found::Vector(k) => {

@@ -1,14 +1,29 @@
 // Registers of 256 bits in a list of words: vector v is bit v mod 32 of the word at place + v div 32.
 ghost use mathlib.Core.Path.{_≡_};
 ghost use mathlib.Core.Bool.{true};
-ghost use Prim.Native.Nat.{ℕ, _+_, _<_, _≤_, _^_};
+ghost use Prim.Native.Nat.{_+_, _<_, _≤_, _^_};
 ghost use lib.ListN.{length};
-ghost use Rattle.word.specs.Word.{bit};
-ghost use Rattle.apic.specs.Vectors.{withVector, least, lowest, marked, isVector};
+ghost use Rattle.apic.specs.Vectors.{withVector, lowest, marked, isVector, isNone};
 
 pub enum Found {
     Vector(u32),
     None,
+}
+
+// Whether no vector is set in the register at a place.
+pub fn is_clear(b: &[u32], place: usize) -> bool
+    requires { ⌜ (place < 2 ^ 32) × (place + 8 ≤ length (now b)) ⌝ }
+    ensures { λ r. ⌜ r ≡ isNone (lowest (now (b .entry)) place) ⌝ }
+{
+    let mut n: u32 = 0;
+    while n < 8 {
+        let at = place + n as usize;
+        if b[at] != 0 {
+            return false;
+        }
+        n += 1;
+    }
+    true
 }
 
 // The lowest vector that is set in the register at a place: the lowest bit of the first word that is not zero.

@@ -1,7 +1,7 @@
 -- `apic::local::event` meets its contract, by the lowest vectors of both registers.
 use borrow.Author.Needs.{needs}
 use mathlib.Core.Path.{sym, _∙_}
-use Rattle.apic.proofs.Events.{event-none, event-free, event-below, event-masked}
+use Rattle.apic.proofs.Events.{event-none, event-free, event-clear, event-below, event-masked}
 use Rattle.apic.proofs.local.event.Statement.{statement}
 use Rattle.apic.proofs.local.event.Tie as tie
 
@@ -11,14 +11,20 @@ lowest-requires c κs = search needs
 enum-known-asked : tie.Need-enum-known-asked
 enum-known-asked c = search needs
 
+is-clear-requires : tie.Need-is-clear-requires
+is-clear-requires c κs = search needs
+
+returns : tie.Need-returns
+returns c = event-clear (c .before .before .before .before .before .before .before .args .b .now) _ (sym (c .before .before .before .before .before .lowest .ensures) ∙ c .before .before .before .asked .given .1) (sym (c .before .is-clear .ensures) ∙ c .if1 .taken)
+
 lowest-requires-2 : tie.Need-lowest-requires-2
 lowest-requires-2 c κs = search needs
 
 enum-known-served : tie.Need-enum-known-served
 enum-known-served c = search needs
 
-returns : tie.Need-returns
-returns c = event-below (c .before .before .before .before .before .before .before .before .before .before .args .b .now) _ (sym (c .before .before .before .before .before .before .before .before .lowest .ensures) ∙ c .before .before .before .before .before .before .asked .given .1) _ (sym (c .before .before .before .before .lowest2 .ensures) ∙ c .before .before .served .given .1) (c .if1 .taken)
+returns-2 : tie.Need-returns-2
+returns-2 c = event-below (c .before .before .before .before .before .before .before .before .before .before .before .before .args .b .now) _ (sym (c .before .before .before .before .before .before .before .before .before .before .lowest .ensures) ∙ c .before .before .before .before .before .before .before .before .asked .given .1) _ (sym (c .before .before .before .before .lowest2 .ensures) ∙ c .before .before .served .given .1) (c .if2 .taken)
 
 enum-told : tie.Need-enum-told
 enum-told c = search needs
@@ -26,14 +32,14 @@ enum-told c = search needs
 enum-told-2 : tie.Need-enum-told-2
 enum-told-2 c = search needs
 
-returns-2 : tie.Need-returns-2
-returns-2 c = event-masked (c .before .before .before .before .before .before .before .before .before .before .args .b .now) _ (sym (c .before .before .before .before .before .before .before .before .lowest .ensures) ∙ c .before .before .before .before .before .before .asked .given .1) _ (sym (c .before .before .before .before .lowest2 .ensures) ∙ c .before .before .served .given .1) (c .if1 .left)
-
 returns-3 : tie.Need-returns-3
-returns-3 c = event-free (c .before .before .before .before .before .before .before .before .args .b .now) _ (sym (c .before .before .before .before .before .before .lowest .ensures) ∙ c .before .before .before .before .asked .given .1) (sym (c .before .before .lowest2 .ensures) ∙ c .enum-told .given .1)
+returns-3 c = event-masked (c .before .before .before .before .before .before .before .before .before .before .before .before .args .b .now) _ (sym (c .before .before .before .before .before .before .before .before .before .before .lowest .ensures) ∙ c .before .before .before .before .before .before .before .before .asked .given .1) _ (sym (c .before .before .before .before .lowest2 .ensures) ∙ c .before .before .served .given .1) (c .if2 .left)
 
 returns-4 : tie.Need-returns-4
-returns-4 c = event-none (c .before .before .before .before .args .b .now) (sym (c .before .before .lowest .ensures) ∙ c .enum-told2 .given .1)
+returns-4 c = event-free (c .before .before .before .before .before .before .before .before .before .before .args .b .now) _ (sym (c .before .before .before .before .before .before .before .before .lowest .ensures) ∙ c .before .before .before .before .before .before .asked .given .1) (sym (c .before .before .lowest2 .ensures) ∙ c .enum-told .given .1)
+
+returns-5 : tie.Need-returns-5
+returns-5 c = event-none (c .before .before .before .before .args .b .now) (sym (c .before .before .lowest .ensures) ∙ c .enum-told2 .given .1)
 
 pub event-spec : {M : Type 1} → statement M
 event-spec =
@@ -41,11 +47,13 @@ event-spec =
     (tie.spec
     lowest-requires
     enum-known-asked
+    is-clear-requires
+    returns
     lowest-requires-2
     enum-known-served
-    returns
+    returns-2
     enum-told
     enum-told-2
-    returns-2
     returns-3
-    returns-4)
+    returns-4
+    returns-5)
