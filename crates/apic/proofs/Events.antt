@@ -38,7 +38,7 @@ some-yes f (suc j) k l e =
 false-true : false ≡ true → ⊥
 false-true e = subst (λ (t : Bool). if t then ⊥ else Unit {0}) e tt
 
-told-none : (r : Found) → isNone r ≡ true → r ≡ None
+pub told-none : (r : Found) → isNone r ≡ true → r ≡ None
 told-none None e = refl
 told-none (Vector v) e = absurd (false-true e)
 

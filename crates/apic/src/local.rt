@@ -33,10 +33,13 @@ pub fn event(b: &[u32]) -> Found
     requires { ⌜ length (now b) ≡ 256 ⌝ }
     ensures { λ r. ⌜ r ≡ s.event (now (b .entry)) ⌝ }
 {
+    // Most often nothing is asked for, and where something is nothing is in service: both are quickly seen.
+    if vectors::is_clear(b, IRR) {
+        return Found::None;
+    }
     let asked = vectors::lowest(b, IRR);
     match asked {
         Found::Vector(v) => {
-            // Most often nothing is in service, which is quickly seen.
             if vectors::is_clear(b, ISR) {
                 return Found::Vector(v);
             }

@@ -1,9 +1,15 @@
 -- `apic::local::event` meets its contract, by the lowest vectors of both registers.
 use borrow.Author.Needs.{needs}
 use mathlib.Core.Path.{sym, _∙_}
-use Rattle.apic.proofs.Events.{event-none, event-free, event-clear, event-below, event-masked}
+use Rattle.apic.proofs.Events.{told-none, event-none, event-free, event-clear, event-below, event-masked}
 use Rattle.apic.proofs.local.event.Statement.{statement}
 use Rattle.apic.proofs.local.event.Tie as tie
+
+is-clear-requires : tie.Need-is-clear-requires
+is-clear-requires c κs = search needs
+
+returns : tie.Need-returns
+returns c = event-none (c .before .before .before .args .b .now) (told-none _ (sym (c .before .is-clear .ensures) ∙ c .if1 .taken))
 
 lowest-requires : tie.Need-lowest-requires
 lowest-requires c κs = search needs
@@ -11,11 +17,11 @@ lowest-requires c κs = search needs
 enum-known-asked : tie.Need-enum-known-asked
 enum-known-asked c = search needs
 
-is-clear-requires : tie.Need-is-clear-requires
-is-clear-requires c κs = search needs
+is-clear-requires-2 : tie.Need-is-clear-requires-2
+is-clear-requires-2 c κs = search needs
 
-returns : tie.Need-returns
-returns c = event-clear (c .before .before .before .before .before .before .before .args .b .now) _ (sym (c .before .before .before .before .before .lowest .ensures) ∙ c .before .before .before .asked .given .1) (sym (c .before .is-clear .ensures) ∙ c .if1 .taken)
+returns-2 : tie.Need-returns-2
+returns-2 c = event-clear (c .before .before .before .before .before .before .before .before .before .args .b .now) _ (sym (c .before .before .before .before .before .lowest .ensures) ∙ c .before .before .before .asked .given .1) (sym (c .before .is-clear2 .ensures) ∙ c .if2 .taken)
 
 lowest-requires-2 : tie.Need-lowest-requires-2
 lowest-requires-2 c κs = search needs
@@ -23,8 +29,8 @@ lowest-requires-2 c κs = search needs
 enum-known-served : tie.Need-enum-known-served
 enum-known-served c = search needs
 
-returns-2 : tie.Need-returns-2
-returns-2 c = event-below (c .before .before .before .before .before .before .before .before .before .before .before .before .args .b .now) _ (sym (c .before .before .before .before .before .before .before .before .before .before .lowest .ensures) ∙ c .before .before .before .before .before .before .before .before .asked .given .1) _ (sym (c .before .before .before .before .lowest2 .ensures) ∙ c .before .before .served .given .1) (c .if2 .taken)
+returns-3 : tie.Need-returns-3
+returns-3 c = event-below (c .before .before .before .before .before .before .before .before .before .before .before .before .before .before .args .b .now) _ (sym (c .before .before .before .before .before .before .before .before .before .before .lowest .ensures) ∙ c .before .before .before .before .before .before .before .before .asked .given .1) _ (sym (c .before .before .before .before .lowest2 .ensures) ∙ c .before .before .served .given .1) (c .if3 .taken)
 
 enum-told : tie.Need-enum-told
 enum-told c = search needs
@@ -32,28 +38,30 @@ enum-told c = search needs
 enum-told-2 : tie.Need-enum-told-2
 enum-told-2 c = search needs
 
-returns-3 : tie.Need-returns-3
-returns-3 c = event-masked (c .before .before .before .before .before .before .before .before .before .before .before .before .args .b .now) _ (sym (c .before .before .before .before .before .before .before .before .before .before .lowest .ensures) ∙ c .before .before .before .before .before .before .before .before .asked .given .1) _ (sym (c .before .before .before .before .lowest2 .ensures) ∙ c .before .before .served .given .1) (c .if2 .left)
-
 returns-4 : tie.Need-returns-4
-returns-4 c = event-free (c .before .before .before .before .before .before .before .before .before .before .args .b .now) _ (sym (c .before .before .before .before .before .before .before .before .lowest .ensures) ∙ c .before .before .before .before .before .before .asked .given .1) (sym (c .before .before .lowest2 .ensures) ∙ c .enum-told .given .1)
+returns-4 c = event-masked (c .before .before .before .before .before .before .before .before .before .before .before .before .before .before .args .b .now) _ (sym (c .before .before .before .before .before .before .before .before .before .before .lowest .ensures) ∙ c .before .before .before .before .before .before .before .before .asked .given .1) _ (sym (c .before .before .before .before .lowest2 .ensures) ∙ c .before .before .served .given .1) (c .if3 .left)
 
 returns-5 : tie.Need-returns-5
-returns-5 c = event-none (c .before .before .before .before .args .b .now) (sym (c .before .before .lowest .ensures) ∙ c .enum-told2 .given .1)
+returns-5 c = event-free (c .before .before .before .before .before .before .before .before .before .before .before .before .args .b .now) _ (sym (c .before .before .before .before .before .before .before .before .lowest .ensures) ∙ c .before .before .before .before .before .before .asked .given .1) (sym (c .before .before .lowest2 .ensures) ∙ c .enum-told .given .1)
+
+returns-6 : tie.Need-returns-6
+returns-6 c = event-none (c .before .before .before .before .before .before .args .b .now) (sym (c .before .before .lowest .ensures) ∙ c .enum-told2 .given .1)
 
 pub event-spec : {M : Type 1} → statement M
 event-spec =
     tie.close
     (tie.spec
-    lowest-requires
-    enum-known-asked
     is-clear-requires
     returns
+    lowest-requires
+    enum-known-asked
+    is-clear-requires-2
+    returns-2
     lowest-requires-2
     enum-known-served
-    returns-2
+    returns-3
     enum-told
     enum-told-2
-    returns-3
     returns-4
-    returns-5)
+    returns-5
+    returns-6)
