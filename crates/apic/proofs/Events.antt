@@ -1,7 +1,7 @@
 -- The external event (definition 66) by the lowest vectors of IRR and ISR.
 -- Assumes nothing.
 use mathlib.Core.Path.{_≡_, refl, sym, ap, _∙_, subst}
-use mathlib.Core.Bool.{Bool, true, false}
+use mathlib.Core.Bool.{Bool, true, false, not}
 use mathlib.Core.List.{List}
 use mathlib.Core.Logic.{⊎-elim}
 use Prim.Native.Nat.{ℕ, zero, suc, _≤_, _<_}
@@ -11,9 +11,8 @@ use borrow.Author.Tests.{eq-eqb, ne-eqb}
 use Rattle.word.specs.Word.{if_then_else_}
 use Rattle.word.proofs.Laws.{side}
 use Rattle.word.proofs.Truth.{or-true}
-use Rattle.apic.specs.declared.vectors.Found.{Found}
 use Rattle.apic.specs.declared.vectors.Found.the-variants.{Vector, None}
-use Rattle.apic.specs.Vectors.{bitAt, least, lowest, isNone}
+use Rattle.apic.specs.Vectors.{bitAt, least, lowest}
 use Rattle.apic.specs.LocalApic.{isr, irr, someUpTo, event}
 use Rattle.apic.proofs.Least.{Unset, found-at, found-none, set-below, set-there, unset-below, unset-all}
 
@@ -38,9 +37,13 @@ some-yes f (suc j) k l e =
 false-true : false ≡ true → ⊥
 false-true e = subst (λ (t : Bool). if t then ⊥ else Unit {0}) e tt
 
-pub told-none : (r : Found) → isNone r ≡ true → r ≡ None
-told-none None e = refl
-told-none (Vector v) e = absurd (false-true e)
+-- of the 256 vectors, one is set or none
+module _ (f : ℕ → ℕ) where
+  pub one-set : (v : ℕ) → least f 256 0 ≡ Vector v → not (someUpTo f 255) ≡ false
+  one-set v e = ap not (some-yes f 255 v (omega (arith, set-below f 256 v e)) (set-there f 256 v e))
+
+  pub none-set : not (someUpTo f 255) ≡ true → least f 256 0 ≡ None
+  none-set h = found-none f 256 (λ k l e. false-true (sym (ap not (some-yes f 255 k (omega arith) e)) ∙ h))
 
 -- ---- what is in service, f, hides requests, g
 
@@ -82,9 +85,6 @@ module _ (b : List ℕ) where
     unfolding event
     event-free s =
         sym (open-at served wanted v (set-below wanted 256 v e) (set-there wanted 256 v e) (unset-below wanted 256 v e) (λ k l. unset-all served 256 s k (omega (arith, set-below wanted 256 v e))))
-
-    pub event-clear : isNone (lowest b isr) ≡ true → Vector v ≡ event b
-    event-clear s = event-free (told-none (lowest b isr) s)
 
     pub event-below : (s : ℕ) → lowest b isr ≡ Vector s → v < s → Vector v ≡ event b
     unfolding event

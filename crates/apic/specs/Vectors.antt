@@ -37,8 +37,3 @@ marked b p (Vector v) x = withVector b p v x
 abbrev pub isVector : Found → Bool
 isVector None = true
 isVector (Vector v) = ltb v 256
-
--- whether there is none
-abbrev pub isNone : Found → Bool
-isNone None = true
-isNone (Vector v) = false

@@ -1,9 +1,10 @@
 // Registers of 256 bits in a list of words: vector v is bit v mod 32 of the word at place + v div 32.
 ghost use mathlib.Core.Path.{_≡_};
-ghost use mathlib.Core.Bool.{true};
-ghost use Prim.Native.Nat.{_+_, _<_, _≤_, _^_};
+ghost use mathlib.Core.Bool.{true, not};
+ghost use Prim.Native.Nat.{ℕ, _+_, _<_, _≤_, _^_};
 ghost use lib.ListN.{length};
-ghost use Rattle.apic.specs.Vectors.{withVector, lowest, marked, isVector, isNone};
+ghost use Rattle.apic.specs.Vectors.{bitAt, withVector, lowest, marked, isVector};
+ghost use Rattle.apic.specs.LocalApic.{someUpTo};
 
 pub enum Found {
     Vector(u32),
@@ -13,7 +14,7 @@ pub enum Found {
 // Whether no vector is set in the register at a place.
 pub fn is_clear(b: &[u32], place: usize) -> bool
     requires { ⌜ (place < 2 ^ 32) × (place + 8 ≤ length (now b)) ⌝ }
-    ensures { λ r. ⌜ r ≡ isNone (lowest (now (b .entry)) place) ⌝ }
+    ensures { λ r. ⌜ r ≡ not (someUpTo (λ (k : ℕ). bitAt (now (b .entry)) place k) 255) ⌝ }
 {
     let mut n: u32 = 0;
     while n < 8 {

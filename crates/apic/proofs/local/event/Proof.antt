@@ -1,7 +1,7 @@
 -- `apic::local::event` meets its contract, by the lowest vectors of both registers.
 use borrow.Author.Needs.{needs}
 use mathlib.Core.Path.{sym, _∙_}
-use Rattle.apic.proofs.Events.{told-none, event-none, event-free, event-clear, event-below, event-masked}
+use Rattle.apic.proofs.Events.{none-set, event-none, event-free, event-below, event-masked}
 use Rattle.apic.proofs.local.event.Statement.{statement}
 use Rattle.apic.proofs.local.event.Tie as tie
 
@@ -9,7 +9,7 @@ is-clear-requires : tie.Need-is-clear-requires
 is-clear-requires c κs = search needs
 
 returns : tie.Need-returns
-returns c = event-none (c .before .before .before .args .b .now) (told-none _ (sym (c .before .is-clear .ensures) ∙ c .if1 .taken))
+returns c = event-none (c .before .before .before .args .b .now) (none-set _ (sym (c .before .is-clear .ensures) ∙ c .if1 .taken))
 
 lowest-requires : tie.Need-lowest-requires
 lowest-requires c κs = search needs
@@ -21,7 +21,7 @@ is-clear-requires-2 : tie.Need-is-clear-requires-2
 is-clear-requires-2 c κs = search needs
 
 returns-2 : tie.Need-returns-2
-returns-2 c = event-clear (c .before .before .before .before .before .before .before .before .before .args .b .now) _ (sym (c .before .before .before .before .before .lowest .ensures) ∙ c .before .before .before .asked .given .1) (sym (c .before .is-clear2 .ensures) ∙ c .if2 .taken)
+returns-2 c = event-free (c .before .before .before .before .before .before .before .before .before .args .b .now) _ (sym (c .before .before .before .before .before .lowest .ensures) ∙ c .before .before .before .asked .given .1) (none-set _ (sym (c .before .is-clear2 .ensures) ∙ c .if2 .taken))
 
 lowest-requires-2 : tie.Need-lowest-requires-2
 lowest-requires-2 c κs = search needs

@@ -1,9 +1,11 @@
 -- `apic::vectors::is_clear` meets its contract. The invariant: no vector of the words before word n is set.
 use mathlib.Core.Path.{sym, ap}
+use mathlib.Core.Bool.{not}
 use Prim.Native.Nat.{ℕ, _+_, _*_, _-_, _≤_}
 use native.Mathlib.Omega.{arith}
-use Rattle.apic.specs.Vectors.{bitAt, isNone}
-use Rattle.apic.proofs.Least.{Unset, found-none}
+use Rattle.apic.specs.Vectors.{bitAt}
+use Rattle.apic.proofs.Least.{Unset}
+use Rattle.apic.proofs.Events.{some-no, one-set}
 use Rattle.apic.proofs.Words.{word-clear, word-found}
 use Rattle.apic.proofs.vectors.is_clear.Statement.{statement}
 use Rattle.apic.proofs.vectors.is_clear.Tie as tie
@@ -33,7 +35,7 @@ returns : tie.Need-returns Inv-loop μ-loop
 returns c =
     let a = c .before .before .before .before .args in
     let l = c .before .before .before .loop in
-    sym (ap isNone (word-found (a .b .now) (a .place) (l .n) (l .inv .1) (omega arith) (omega arith) (c .before .shared-slice-known .given (a .place + l .n) .fits)))
+    sym (one-set (λ (k : ℕ). bitAt (a .b .now) (a .place) k) _ (word-found (a .b .now) (a .place) (l .n) (l .inv .1) (omega arith) (omega arith) (c .before .shared-slice-known .given (a .place + l .n) .fits)))
 
 add-n : tie.Need-add-n Inv-loop μ-loop
 add-n c = omega arith
@@ -48,7 +50,7 @@ loop-again c =
     (omega arith, word-clear (a .b .now) (a .place) (l .n) (l .inv .1) (c .if1 .left))
 
 returns-2 : tie.Need-returns-2 Inv-loop μ-loop
-returns-2 c = sym (ap isNone (found-none (λ (k : ℕ). bitAt (c .before .before .args .b .now) (c .before .before .args .place) k) 256 (λ k l. c .before .loop .inv .1 k (omega arith))))
+returns-2 c = sym (ap not (some-no (λ (k : ℕ). bitAt (c .before .before .args .b .now) (c .before .before .args .place) k) 255 (λ k l. c .before .loop .inv .1 k (omega arith))))
 
 pub is-clear-spec : {M : Type 1} → statement M
 is-clear-spec =
