@@ -271,9 +271,9 @@ fn main() {
         return;
     }
     println!("nanoseconds a step, best / median of {REPEATS} repeats of 1,024 steps; ratios of the medians");
-    let schedules =
+    let cases =
         [schedules::system(), schedules::user(), schedules::tlb(), schedules::interrupts(), schedules::none_pending()];
-    for case in schedules {
+    for case in cases {
         if case.name.contains(&part) {
             time_schedule(&case, &mut missed);
         }

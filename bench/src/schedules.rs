@@ -50,6 +50,11 @@ fn i(opcode: u32, rt: u32, rs: u32, immediate: u32) -> u32 {
     opcode << 26 | rs << 21 | rt << 16 | immediate & 0xFFFF
 }
 
+/// movg2s: general register rt to a special register.
+fn to_special(register: usize, rt: u32) -> u32 {
+    0x10 << 26 | 0b00100 << 21 | rt << 16 | (register as u32) << 11
+}
+
 /// What follows an instruction in the schedule: nothing, or the step of the store buffer.
 #[derive(Clone, Copy, PartialEq)]
 enum Then {
@@ -181,9 +186,9 @@ pub fn none_pending() -> Case {
 }
 
 /// A core in user mode that takes the interrupts of all 24 lines, three vectors in each of the eight words of IRR. In a turn each
-/// line is raised, sampled and delivered. Then for each, the lowest vector first, the core is interrupted; its handler writes EOI,
-/// which leaves the store buffer and is sent; the line is lowered, and the handler returns. Four turns of the program's loop
-/// follow. A turn is 224 steps.
+/// line is raised, sampled and delivered. Then for each, the lowest vector first, the core is interrupted; its handler lets
+/// interrupts through while it writes EOI, so that what is asked for is held against what is in service; the EOI leaves the store
+/// buffer and is sent; the line is lowered, and the handler returns. Eight instructions of the program follow. A turn is 272 steps.
 pub fn interrupts() -> Case {
     const LINES: u32 = 24;
     const REDIRECT: usize = 6;
@@ -198,8 +203,11 @@ pub fn interrupts() -> Case {
     tables[SPR + MODE] = 1;
     tables[PC] = 0x10 << 12;
     tables[BLOCK + 8] = 0xFFFF_F000;
-    put(&mut memory, 0, i(0x2B, 0, 8, 0xC)); // sw 0 8 C: EOI
-    put(&mut memory, 4, ERET);
+    tables[BLOCK + 9] = 1 << 1;
+    put(&mut memory, 0x0, to_special(SR, 9)); // movg2s sr 9
+    put(&mut memory, 0x4, i(0x2B, 0, 8, 0xC)); // sw 0 8 C: EOI
+    put(&mut memory, 0x8, to_special(SR, 0)); // movg2s sr 0
+    put(&mut memory, 0xC, ERET);
     put(&mut memory, 0x1000, i(0x08, 1, 1, 1)); // addi 1 1 1
     put(&mut memory, 0x1004, i(0x04, 0, 0, 0x10000 - 1)); // beq 0 0 -1
     let step = |kind: u32, number: u32, level: u32| [kind, number, level, 0, 0, 0];
@@ -212,7 +220,7 @@ pub fn interrupts() -> Case {
     let mut lines: Vec<u32> = (0..LINES).collect();
     lines.sort_by_key(|&line| vector(line));
     for line in lines {
-        turn.extend([program, handler, drain, send_eoi, step(11, line, 0), handler]);
+        turn.extend([program, handler, handler, handler, drain, send_eoi, step(11, line, 0), handler]);
     }
     turn.extend([program; 8]);
     let schedule = turn.concat().into_iter().cycle().take(6 * STEPS).collect();

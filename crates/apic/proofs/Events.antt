@@ -1,7 +1,7 @@
 -- The external event (definition 66) by the lowest vectors of IRR and ISR.
 -- Assumes nothing.
-use mathlib.Core.Path.{_≡_, refl, sym, ap, _∙_, subst}
-use mathlib.Core.Bool.{Bool, true, false, not}
+use mathlib.Core.Path.{_≡_, refl, sym, ap, _∙_}
+use mathlib.Core.Bool.{Bool, true, false}
 use mathlib.Core.List.{List}
 use mathlib.Core.Logic.{⊎-elim}
 use Prim.Native.Nat.{ℕ, zero, suc, _≤_, _<_}
@@ -10,7 +10,7 @@ use lib.Dec.{eqb}
 use borrow.Author.Tests.{eq-eqb, ne-eqb}
 use Rattle.word.specs.Word.{if_then_else_}
 use Rattle.word.proofs.Laws.{side}
-use Rattle.word.proofs.Truth.{or-true}
+use Rattle.word.proofs.Truth.{or-true, clash}
 use Rattle.apic.specs.declared.vectors.Found.the-variants.{Vector, None}
 use Rattle.apic.specs.Vectors.{bitAt, least, lowest}
 use Rattle.apic.specs.LocalApic.{isr, irr, someUpTo, event}
@@ -34,16 +34,13 @@ some-yes f (suc j) k l e =
     (λ h. let z : k ≡ suc j = omega arith in rw (eq-eqb (f (suc j)) 1 (ap f (sym z) ∙ e)))
     (side k (suc j))
 
-false-true : false ≡ true → ⊥
-false-true e = subst (λ (t : Bool). if t then ⊥ else Unit {0}) e tt
-
 -- of the 256 vectors, one is set or none
 module _ (f : ℕ → ℕ) where
-  pub one-set : (v : ℕ) → least f 256 0 ≡ Vector v → not (someUpTo f 255) ≡ false
-  one-set v e = ap not (some-yes f 255 v (omega (arith, set-below f 256 v e)) (set-there f 256 v e))
+  pub one-set : (v : ℕ) → least f 256 0 ≡ Vector v → someUpTo f 255 ≡ true
+  one-set v e = some-yes f 255 v (omega (arith, set-below f 256 v e)) (set-there f 256 v e)
 
-  pub none-set : not (someUpTo f 255) ≡ true → least f 256 0 ≡ None
-  none-set h = found-none f 256 (λ k l e. false-true (sym (ap not (some-yes f 255 k (omega arith) e)) ∙ h))
+  pub none-set : someUpTo f 255 ≡ false → least f 256 0 ≡ None
+  none-set h = found-none f 256 (λ k l e. clash _ (some-yes f 255 k (omega arith) e) h)
 
 -- ---- what is in service, f, hides requests, g
 
@@ -67,7 +64,7 @@ module _ (f g : ℕ → ℕ) where
   shut-at : (v s : ℕ) → s ≤ v → f s ≡ 1 → Unset g v → least seen 256 0 ≡ None
   shut-at v s l e c =
       found-none seen 256
-      (λ k m q. ⊎-elim (λ h. c k h (asked (someUpTo f k) k q .1)) (λ h. false-true (sym (asked (someUpTo f k) k q .0) ∙ some-yes f k s (omega arith) e)) (side k v))
+      (λ k m q. ⊎-elim (λ h. c k h (asked (someUpTo f k) k q .1)) (λ h. clash _ (some-yes f k s (omega arith) e) (asked (someUpTo f k) k q .0)) (side k v))
 
 module _ (b : List ℕ) where
   abbrev served : ℕ → ℕ

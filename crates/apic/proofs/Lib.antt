@@ -1,5 +1,4 @@
 pub mod Least
-pub mod Zeros
 pub mod Words
 pub mod Events
 pub mod Registers

@@ -8,12 +8,11 @@ use native.Mathlib.Omega.{arith}
 use lib.Count.{trailingZeros}
 use lib.ListN.{getD}
 use Rattle.word.proofs.Laws.{side}
-use Rattle.word.proofs.Bits.{bit-zero}
+use Rattle.word.proofs.Bits.{bit-zero, zeros-clear, zeros-set}
 use Rattle.word.specs.Word.{bit}
 use Rattle.apic.specs.declared.vectors.Found.the-variants.{Vector}
 use Rattle.apic.specs.Vectors.{bitAt, lowest}
 use Rattle.apic.proofs.Least.{Unset, found-at}
-use Rattle.apic.proofs.Zeros.{zeros-clear, zeros-set}
 
 module _ (b : List ℕ) (p i : ℕ) where
   abbrev word : ℕ → ℕ

@@ -33,14 +33,14 @@ pub fn event(b: &[u32]) -> Found
     requires { ⌜ length (now b) ≡ 256 ⌝ }
     ensures { λ r. ⌜ r ≡ s.event (now (b .entry)) ⌝ }
 {
-    // Most often nothing is asked for, and where something is nothing is in service: both are quickly seen.
-    if vectors::is_clear(b, IRR) {
+    // Most often nothing is asked for, or nothing is in service. To see that before a search is for speed alone (docs/PERFORMANCE.md).
+    if !vectors::any(b, IRR) {
         return Found::None;
     }
     let asked = vectors::lowest(b, IRR);
     match asked {
         Found::Vector(v) => {
-            if vectors::is_clear(b, ISR) {
+            if !vectors::any(b, ISR) {
                 return Found::Vector(v);
             }
             let served = vectors::lowest(b, ISR);

@@ -1,6 +1,6 @@
 // Registers of 256 bits in a list of words: vector v is bit v mod 32 of the word at place + v div 32.
 ghost use mathlib.Core.Path.{_≡_};
-ghost use mathlib.Core.Bool.{true, not};
+ghost use mathlib.Core.Bool.{true};
 ghost use Prim.Native.Nat.{ℕ, _+_, _<_, _≤_, _^_};
 ghost use lib.ListN.{length};
 ghost use Rattle.apic.specs.Vectors.{bitAt, withVector, lowest, marked, isVector};
@@ -11,23 +11,23 @@ pub enum Found {
     None,
 }
 
-// Whether no vector is set in the register at a place.
-pub fn is_clear(b: &[u32], place: usize) -> bool
+// Whether a vector is set in the register at a place.
+pub fn any(b: &[u32], place: usize) -> bool
     requires { ⌜ (place < 2 ^ 32) × (place + 8 ≤ length (now b)) ⌝ }
-    ensures { λ r. ⌜ r ≡ not (someUpTo (λ (k : ℕ). bitAt (now (b .entry)) place k) 255) ⌝ }
+    ensures { λ r. ⌜ r ≡ someUpTo (λ (k : ℕ). bitAt (now (b .entry)) place k) 255 ⌝ }
 {
     let mut n: u32 = 0;
     while n < 8 {
         let at = place + n as usize;
         if b[at] != 0 {
-            return false;
+            return true;
         }
         n += 1;
     }
-    true
+    false
 }
 
-// The lowest vector that is set in the register at a place: the lowest bit of the first word that is not zero.
+// The lowest vector that is set in the register at a place: the lowest set bit of the first word that is not zero.
 pub fn lowest(b: &[u32], place: usize) -> Found
     requires { ⌜ (place < 2 ^ 32) × (place + 8 ≤ length (now b)) ⌝ }
     ensures { λ r. ⌜ r ≡ lowest (now (b .entry)) place ⌝ }

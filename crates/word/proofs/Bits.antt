@@ -8,6 +8,7 @@ use native.Mathlib.Nat.{mod-lt, pow-suc, one-mul, mul-add-div-right, mul-assoc, 
 use native.Mathlib.Omega.{arith}
 use borrow.Author.Tests.{eqb-true, eqb-false}
 use lib.Arith.{digits-lt}
+use lib.Count.{trailingZeros, under}
 use lib.Dec.{eqb}
 use lib.Pow.{pow-pos, pow-add, shr-lt, shr-shr, shl-exact, split, high, field, mod-mod-pow}
 use Rattle.word.specs.Word.{bit, isSet, flag, withBit}
@@ -114,6 +115,30 @@ same-bits (suc n) a b p q f =
     let h : a / 2 ≡ b / 2 = same-bits n (a / 2) (b / 2) (omega arith) (omega arith) (λ s l. bit-half a s ∙ f (suc s) (omega arith) ∙ sym (bit-half b s)) in
     let l : bit a 0 ≡ bit b 0 = f 0 (omega arith) in
     omega arith
+
+-- ---- the zeros below the lowest bit that is set, at every width: no bit below their number is set, and in a word that is not zero the bit of that number is
+
+pub zeros-clear : (n w k : ℕ) → k < trailingZeros n w → bit w k ≡ 1 → ⊥
+unfolding trailingZeros
+zeros-clear zero w k l e = absurd (omega arith)
+zeros-clear (suc n) w k l e = go (w % 2) k refl (zeros-clear n (w / 2)) l e
+  where
+    go : {t : ℕ} (d k : ℕ) → w % 2 ≡ d → ((k : ℕ) → k < t → bit (w / 2) k ≡ 1 → ⊥) → k < under d t → bit w k ≡ 1 → ⊥
+    go zero zero h c l e = omega arith
+    go zero (suc k) h c l e = c k (omega arith) (bit-half w k ∙ e)
+    go (suc d) k h c l e = absurd (omega arith)
+
+pub zeros-set : (n w : ℕ) → 0 < w → w < 2 ^ n → (trailingZeros n w < n) × (bit w (trailingZeros n w) ≡ 1)
+unfolding trailingZeros
+zeros-set zero w p q = absurd (omega arith)
+zeros-set (suc n) w p q = go (w % 2) refl (zeros-set n (w / 2))
+  where
+    go : {t : ℕ} (d : ℕ) → w % 2 ≡ d → (0 < w / 2 → w / 2 < 2 ^ n → (t < n) × (bit (w / 2) t ≡ 1)) → (under d t < suc n) × (bit w (under d t) ≡ 1)
+    go {t} zero h f =
+        let e : 2 ^ suc n ≡ 2 ^ n * 2 = pow-suc 2 n in
+        let s = f (omega arith) (omega arith) in
+        (omega (arith, s .0), sym (bit-half w t) ∙ s .1)
+    go (suc d) h f = (omega arith, omega arith)
 
 -- ---- bytes of a word
 

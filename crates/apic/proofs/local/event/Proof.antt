@@ -1,15 +1,16 @@
--- `apic::local::event` meets its contract, by the lowest vectors of both registers.
+-- `apic::local::event` meets its contract, by whether each register has a vector, and by their lowest ones.
 use borrow.Author.Needs.{needs}
 use mathlib.Core.Path.{sym, _∙_}
+use borrow.Author.Tests.{not-true}
 use Rattle.apic.proofs.Events.{none-set, event-none, event-free, event-below, event-masked}
 use Rattle.apic.proofs.local.event.Statement.{statement}
 use Rattle.apic.proofs.local.event.Tie as tie
 
-is-clear-requires : tie.Need-is-clear-requires
-is-clear-requires c κs = search needs
+any-requires : tie.Need-any-requires
+any-requires c κs = search needs
 
 returns : tie.Need-returns
-returns c = event-none (c .before .before .before .args .b .now) (none-set _ (sym (c .before .is-clear .ensures) ∙ c .if1 .taken))
+returns c = event-none (c .before .before .before .args .b .now) (none-set _ (sym (c .before .any .ensures) ∙ not-true _ (c .if1 .taken)))
 
 lowest-requires : tie.Need-lowest-requires
 lowest-requires c κs = search needs
@@ -17,11 +18,11 @@ lowest-requires c κs = search needs
 enum-known-asked : tie.Need-enum-known-asked
 enum-known-asked c = search needs
 
-is-clear-requires-2 : tie.Need-is-clear-requires-2
-is-clear-requires-2 c κs = search needs
+any-requires-2 : tie.Need-any-requires-2
+any-requires-2 c κs = search needs
 
 returns-2 : tie.Need-returns-2
-returns-2 c = event-free (c .before .before .before .before .before .before .before .before .before .args .b .now) _ (sym (c .before .before .before .before .before .lowest .ensures) ∙ c .before .before .before .asked .given .1) (none-set _ (sym (c .before .is-clear2 .ensures) ∙ c .if2 .taken))
+returns-2 c = event-free (c .before .before .before .before .before .before .before .before .before .args .b .now) _ (sym (c .before .before .before .before .before .lowest .ensures) ∙ c .before .before .before .asked .given .1) (none-set _ (sym (c .before .any2 .ensures) ∙ not-true _ (c .if2 .taken)))
 
 lowest-requires-2 : tie.Need-lowest-requires-2
 lowest-requires-2 c κs = search needs
@@ -51,11 +52,11 @@ pub event-spec : {M : Type 1} → statement M
 event-spec =
     tie.close
     (tie.spec
-    is-clear-requires
+    any-requires
     returns
     lowest-requires
     enum-known-asked
-    is-clear-requires-2
+    any-requires-2
     returns-2
     lowest-requires-2
     enum-known-served

@@ -1,14 +1,13 @@
--- `apic::vectors::is_clear` meets its contract. The invariant: no vector of the words before word n is set.
-use mathlib.Core.Path.{sym, ap}
-use mathlib.Core.Bool.{not}
+-- `apic::vectors::any` meets its contract. The invariant: no vector of the words before word n is set.
+use mathlib.Core.Path.{sym}
 use Prim.Native.Nat.{ℕ, _+_, _*_, _-_, _≤_}
 use native.Mathlib.Omega.{arith}
 use Rattle.apic.specs.Vectors.{bitAt}
 use Rattle.apic.proofs.Least.{Unset}
 use Rattle.apic.proofs.Events.{some-no, one-set}
 use Rattle.apic.proofs.Words.{word-clear, word-found}
-use Rattle.apic.proofs.vectors.is_clear.Statement.{statement}
-use Rattle.apic.proofs.vectors.is_clear.Tie as tie
+use Rattle.apic.proofs.vectors.any.Statement.{statement}
+use Rattle.apic.proofs.vectors.any.Tie as tie
 
 abbrev Inv-loop : tie.InvT-loop
 Inv-loop b place n₀ n = (n ≤ 8) × Unset (λ (k : ℕ). bitAt b place k) (32 * n)
@@ -50,10 +49,10 @@ loop-again c =
     (omega arith, word-clear (a .b .now) (a .place) (l .n) (l .inv .1) (c .if1 .left))
 
 returns-2 : tie.Need-returns-2 Inv-loop μ-loop
-returns-2 c = sym (ap not (some-no (λ (k : ℕ). bitAt (c .before .before .args .b .now) (c .before .before .args .place) k) 255 (λ k l. c .before .loop .inv .1 k (omega arith))))
+returns-2 c = sym (some-no (λ (k : ℕ). bitAt (c .before .before .args .b .now) (c .before .before .args .place) k) 255 (λ k l. c .before .loop .inv .1 k (omega arith)))
 
-pub is-clear-spec : {M : Type 1} → statement M
-is-clear-spec =
+pub any-spec : {M : Type 1} → statement M
+any-spec =
     tie.close
     (tie.spec
     Inv-loop
