@@ -23,8 +23,8 @@ static void check_at(int line, const char *what, unsigned long found, unsigned l
 enum { CORES = 0, PAGES = 1, REFUSALS = 2, LINES = 3, BLOCK = 32, PTO = 37, ASID = 38, MODE = 39, PC = 64 };
 enum { RUNNING = 67, STORES = 68, WALKS = 69, FREE = 70, PORTS = 72, RECORDS = 128 };
 
-/* a machine, and a copy of it to compare with */
-#define WORDS MIPS86_TABLE_WORDS(MIPS86_MOST_CORES)
+/* a machine, and a copy of it to compare with; there is room for the fifth core that make refuses */
+#define WORDS MIPS86_TABLE_WORDS(MIPS86_MOST_CORES + 1)
 #define BYTES (16 * MIPS86_PAGE_BYTES)
 static uint32_t tables[WORDS], expected[WORDS];
 static uint8_t memory[BYTES], bytes[BYTES];

@@ -37,9 +37,7 @@ fn the_feeder_keeps_all_apart() {
     map[7] = TABLE;
     map[24] = DATA;
     map[60] = DATA;
-    for page in 25..=27 {
-        map[page] = DATA + WRITABLE;
-    }
+    map[25..=27].fill(DATA + WRITABLE);
     assert_eq!(own.map, map);
 }
 

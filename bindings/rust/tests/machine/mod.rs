@@ -9,10 +9,13 @@ pub const CORES: usize = 0;
 pub const PAGES: usize = 1;
 pub const REFUSALS: usize = 2;
 pub const LINES: usize = 3;
+pub const REST: usize = 30; // zero in sound tables
 pub const BLOCK: usize = 32;
 
 // places of a block
 pub const SPR: usize = 32;
+pub const SR: usize = SPR;
+pub const ECA: usize = SPR + 2;
 pub const PTO: usize = SPR + 5;
 pub const ASID: usize = SPR + 6;
 pub const MODE: usize = SPR + 7;
