@@ -13,16 +13,16 @@ use borrow.Author.Tests.{ltb-true}
 use Rattle.word.specs.Word.{if_then_else_, sll, withBit}
 use Rattle.word.proofs.Words.{Words, set-case, set-below}
 use Rattle.layout.specs.Layout.{running, sipirr, sipivect, initrr, eoipending}
-use Rattle.apic.specs.declared.vectors.Found.{Found}
-use Rattle.apic.specs.declared.vectors.Found.the-variants.{Vector, None}
+use Rattle.vector_register.specs.declared.Found.{Found}
+use Rattle.vector_register.specs.declared.Found.the-variants.{Vector, None}
 use Rattle.apic.specs.declared.local.Kind.{Kind}
 use Rattle.apic.specs.declared.local.Kind.the-variants.{Fixed, Init, Startup}
 use Rattle.apic.specs.declared.active.Ipi.{Ipi}
-use Rattle.apic.specs.Vectors.{bitAt, withVector, lowest, marked, isVector}
+use Rattle.vector_register.specs.Vectors.{bitAt, withVector, lowest, marked, isVector}
 use Rattle.apic.specs.LocalApic.{portAt, icr, eoi, isr, irr, idOf, eoiWritten, portWritten, startup, init, received, onJisr, onRfe}
 use Rattle.apic.specs.Active.{idle, aimed, receivedBy, initCore, startCore}
 use Rattle.word.proofs.Bits.{put-below}
-use Rattle.apic.proofs.Least.{least-vector}
+use Rattle.vector_register.proofs.Least.{least-vector}
 
 -- ---- what a step leaves; P tells the words that are not its own
 

@@ -7,7 +7,7 @@ use lib.ListN.{getD, set}
 use lib.Dec.{eqb}
 use Rattle.word.specs.Word.{if_then_else_, sll, bit, withBit}
 use Rattle.layout.specs.Layout.{spr, pc, running, eoipending, sipirr, sipivect, initrr, eca, mode}
-use Rattle.apic.specs.declared.vectors.Found.{Found}
+use Rattle.vector_register.specs.declared.Found.{Found}
 use Rattle.apic.specs.declared.local.Kind.{Kind}
 use Rattle.apic.specs.declared.local.Kind.the-variants.{Fixed, Init, Startup}
 use Rattle.apic.specs.declared.active.Target.{Target}
@@ -15,7 +15,7 @@ use Rattle.apic.specs.declared.active.Target.the-variants.{Id, Own, All,
 use Rattle.apic.specs.declared.active.Ipi.{Ipi}
 use Rattle.apic.specs.declared.active.Sending.{Sending}
 use Rattle.apic.specs.declared.active.Sending.the-variants.{Send, Refused}
-use Rattle.apic.specs.Vectors.{withVector, lowest}
+use Rattle.vector_register.specs.Vectors.{withVector, lowest}
 use Rattle.apic.specs.LocalApic.{icr, idOf, received}
 
 -- ---- apic-sendIPI

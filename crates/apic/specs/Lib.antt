@@ -1,4 +1,3 @@
-pub mod Vectors
 pub mod LocalApic
 pub mod Active
 pub mod Figures

@@ -1,16 +1,15 @@
 -- The local APIC of a core, on the words of the core's block (section 9).
 -- Assumes nothing.
-use mathlib.Core.Bool.{Bool, _||_}
 use mathlib.Core.List.{List}
-use Prim.Native.Nat.{ℕ, zero, suc, _+_, _/_, _%_, _^_}
+use Prim.Native.Nat.{ℕ, _+_, _/_, _%_, _^_}
 use lib.ListN.{getD, set}
 use lib.Dec.{eqb}
 use Rattle.word.specs.Word.{if_then_else_}
 use Rattle.layout.specs.Layout.{ports, eoipending, sipirr, sipivect, initrr}
-use Rattle.apic.specs.declared.vectors.Found.{Found}
+use Rattle.vector_register.specs.declared.Found.{Found}
 use Rattle.apic.specs.declared.local.Kind.{Kind}
 use Rattle.apic.specs.declared.local.Kind.the-variants.{Fixed, Init, Startup}
-use Rattle.apic.specs.Vectors.{bitAt, withVector, least, lowest, marked}
+use Rattle.vector_register.specs.Vectors.{bitAt, withVector, least, lowest, marked, someUpTo}
 
 -- ---- 9.1.1: the ports; a word port at byte a is one word
 
@@ -38,11 +37,6 @@ abbrev pub idOf : List ℕ → ℕ
 idOf b = getD b apicId 0 / 2 ^ 24 % 16
 
 -- ---- definition 66: the external event signals
-
--- ∃ k ≤ j : f k = 1
-unfoldable pub someUpTo : (ℕ → ℕ) → ℕ → Bool
-someUpTo f zero = eqb (f 0) 1
-someUpTo f (suc j) = eqb (f (suc j)) 1 || someUpTo f j
 
 abbrev pub eev : List ℕ → ℕ → ℕ
 eev b j = if someUpTo (λ (k : ℕ). bitAt b isr k) j then 0 else bitAt b irr j

@@ -1,8 +1,7 @@
 // The active steps of a local APIC (11.3), as far as they lie in one core's block.
 use super::local;
 use super::local::Kind;
-use super::vectors;
-use super::vectors::Found;
+use vector_register::Found;
 ghost use mathlib.Core.Path.{_≡_};
 ghost use Prim.Native.Nat.{_<_};
 ghost use lib.ListN.{length};
@@ -126,7 +125,7 @@ pub fn pending_eoi(b: &[u32]) -> Found
     requires { ⌜ length (now b) ≡ 256 ⌝ }
     ensures { λ r. ⌜ r ≡ s.pendingEoi (now (b .entry)) ⌝ }
 {
-    vectors::lowest(b, layout::EOIPENDING)
+    vector_register::lowest(b, layout::EOIPENDING)
 }
 
 // The sender afterwards.
@@ -134,7 +133,7 @@ pub fn eoi_sent(b: &mut [u32], v: u32)
     requires { ⌜ (length (now b) ≡ 256) × (v < 256) ⌝ }
     ensures { λ _. ⌜ now (b .exit) ≡ s.eoiSent (now (b .entry)) v ⌝ }
 {
-    vectors::put_vector(b, layout::EOIPENDING, v, 0);
+    vector_register::put_vector(b, layout::EOIPENDING, v, 0);
 }
 
 pub fn may_init(b: &[u32]) -> bool

@@ -1,3 +1,2 @@
 pub mod active;
 pub mod local;
-pub mod vectors;

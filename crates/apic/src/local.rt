@@ -1,6 +1,5 @@
 // The local APIC of a core, on the words of the core's block (section 9).
-use super::vectors;
-use super::vectors::Found;
+use vector_register::Found;
 ghost use mathlib.Core.Path.{_≡_};
 ghost use Prim.Native.Nat.{_<_};
 ghost use lib.ListN.{length};
@@ -34,16 +33,16 @@ pub fn event(b: &[u32]) -> Found
     ensures { λ r. ⌜ r ≡ s.event (now (b .entry)) ⌝ }
 {
     // Most often nothing is asked for, or nothing is in service. To see that before a search is for speed alone (docs/PERFORMANCE.md).
-    if !vectors::any(b, IRR) {
+    if !vector_register::any(b, IRR) {
         return Found::None;
     }
-    let asked = vectors::lowest(b, IRR);
+    let asked = vector_register::lowest(b, IRR);
     match asked {
         Found::Vector(v) => {
-            if !vectors::any(b, ISR) {
+            if !vector_register::any(b, ISR) {
                 return Found::Vector(v);
             }
-            let served = vectors::lowest(b, ISR);
+            let served = vector_register::lowest(b, ISR);
             match served {
                 Found::Vector(k) => {
                     if v < k {
@@ -62,10 +61,10 @@ fn end(b: &mut [u32], v: u32)
     requires { ⌜ length (now b) ≡ 256 ⌝ }
     ensures { λ _. ⌜ now (b .exit) ≡ s.eoiWritten (now (b .entry)) v ⌝ }
 {
-    let f = vectors::lowest(b, ISR);
+    let f = vector_register::lowest(b, ISR);
     b[EOI] = v;
-    vectors::mark(b, ISR, f, 0);
-    vectors::mark(b, layout::EOIPENDING, f, 1);
+    vector_register::mark(b, ISR, f, 0);
+    vector_register::mark(b, layout::EOIPENDING, f, 1);
 }
 
 // A word written at port byte a.
@@ -105,7 +104,7 @@ pub fn receive(b: &mut [u32], k: Kind, v: u32)
     ensures { λ _. ⌜ now (b .exit) ≡ s.received (now (b .entry)) k v ⌝ }
 {
     match k {
-        Kind::Fixed => vectors::put_vector(b, IRR, v, 1),
+        Kind::Fixed => vector_register::put_vector(b, IRR, v, 1),
         Kind::Init => init(b),
         Kind::Startup => startup(b, v),
     }
@@ -116,9 +115,9 @@ pub fn jisr(b: &mut [u32])
     requires { ⌜ length (now b) ≡ 256 ⌝ }
     ensures { λ _. ⌜ now (b .exit) ≡ s.onJisr (now (b .entry)) ⌝ }
 {
-    let f = vectors::lowest(b, IRR);
-    vectors::mark(b, IRR, f, 0);
-    vectors::mark(b, ISR, f, 1);
+    let f = vector_register::lowest(b, IRR);
+    vector_register::mark(b, IRR, f, 0);
+    vector_register::mark(b, ISR, f, 1);
 }
 
 // The core returns from one.
@@ -126,6 +125,6 @@ pub fn rfe(b: &mut [u32])
     requires { ⌜ length (now b) ≡ 256 ⌝ }
     ensures { λ _. ⌜ now (b .exit) ≡ s.onRfe (now (b .entry)) ⌝ }
 {
-    let f = vectors::lowest(b, ISR);
-    vectors::mark(b, ISR, f, 0);
+    let f = vector_register::lowest(b, ISR);
+    vector_register::mark(b, ISR, f, 0);
 }

@@ -33,11 +33,11 @@ use Rattle.store_buffer.specs.declared.Read.the-variants.{There, Nowhere}
 use Rattle.store_buffer.specs.declared.Loaded.{Loaded}
 use Rattle.store_buffer.specs.declared.Loaded.the-variants.{Value, Hazard}
 use Rattle.store_buffer.specs.System.{memoryByte, join, reads, loaded, sized, aligned}
-use Rattle.apic.specs.declared.vectors.Found.{Found}
-use Rattle.apic.specs.declared.vectors.Found.the-variants.{Vector, None}
-use Rattle.apic.specs.Vectors.{isVector}
+use Rattle.vector_register.specs.declared.Found.{Found}
+use Rattle.vector_register.specs.declared.Found.the-variants.{Vector, None}
+use Rattle.vector_register.specs.Vectors.{isVector}
 use Rattle.apic.specs.LocalApic.{event, eev}
-use Rattle.apic.proofs.Least.{least-vector}
+use Rattle.vector_register.proofs.Least.{least-vector}
 use Rattle.steps.specs.declared.Answer.the-variants.{Done}
 use Rattle.cores.specs.declared.CoreChange.the-variants.{Return, Execute}
 use Rattle.cores.specs.declared.IoPorts.{IoPorts}

@@ -32,7 +32,7 @@ use Rattle.tables.proofs.Places.{words-facts, facts-words, registers-same, any-
 use Rattle.tables.proofs.Bank.{registers-size, registers-zero, put-long, put-above, put-registers-view, put-stores, put-walks, put-sound}
 use Rattle.tables.proofs.Steps.{after-registers, take-after, take-block, put-after, put-block, add-after, add-block, drop-after, drop-block}
 use Rattle.apic.specs.LocalApic as apic
-use Rattle.apic.specs.Vectors.{lowest, marked}
+use Rattle.vector_register.specs.Vectors.{lowest, marked}
 use Rattle.apic.proofs.Kept.{Kept, Passive, kept-marked, kept-jisr, kept-rfe}
 use Rattle.cores.specs.declared.CoreChange.{CoreChange}
 use Rattle.cores.specs.declared.CoreChange.the-variants.{Interrupt, Return, Execute}

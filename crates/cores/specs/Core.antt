@@ -30,8 +30,8 @@ use Rattle.store_buffer.specs.declared.Loaded.{Loaded}
 use Rattle.store_buffer.specs.declared.Loaded.the-variants.{Value, Hazard}
 use Rattle.store_buffer.specs.Buffer.{sbhazard}
 use Rattle.store_buffer.specs.System.{Ports, isPort, memoryByte, reads, loaded}
-use Rattle.apic.specs.declared.vectors.Found.{Found}
-use Rattle.apic.specs.declared.vectors.Found.the-variants.{Vector, None}
+use Rattle.vector_register.specs.declared.Found.{Found}
+use Rattle.vector_register.specs.declared.Found.the-variants.{Vector, None}
 use Rattle.apic.specs.LocalApic.{event}
 use Rattle.cores.specs.declared.IoPorts.{IoPorts}
 use Rattle.cores.specs.declared.BufferChange.{BufferChange}

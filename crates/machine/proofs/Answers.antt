@@ -8,8 +8,8 @@ use lib.ListN.{length}
 use Rattle.layout.specs.Blocks.{block}
 use Rattle.records.specs.Records.{stores}
 use Rattle.tables.specs.Views.{coresOf}
-use Rattle.apic.specs.declared.vectors.Found.{Found}
-use Rattle.apic.specs.declared.vectors.Found.the-variants.{Vector, None}
+use Rattle.vector_register.specs.declared.Found.{Found}
+use Rattle.vector_register.specs.declared.Found.the-variants.{Vector, None}
 use Rattle.apic.specs.declared.active.Sending.{Sending}
 use Rattle.apic.specs.declared.active.Sending.the-variants as sent
 use Rattle.apic.specs.Active.{sending, pendingEoi, mayInit, mayStart}

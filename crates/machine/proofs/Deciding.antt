@@ -16,8 +16,8 @@ use Rattle.layout.specs.Blocks.{block}
 use Rattle.tables.specs.Views.{coresOf}
 use Rattle.tables.specs.Sound.{sound}
 use Rattle.tables.proofs.Lift.{core-sound}
-use Rattle.apic.specs.declared.vectors.Found.{Found}
-use Rattle.apic.specs.declared.vectors.Found.the-variants.{Vector, None}
+use Rattle.vector_register.specs.declared.Found.{Found}
+use Rattle.vector_register.specs.declared.Found.the-variants.{Vector, None}
 use Rattle.apic.specs.declared.active.Sending.{Sending}
 use Rattle.apic.specs.declared.active.Sending.the-variants as sent
 use Rattle.apic.specs.Active.{sending, pendingEoi, mayInit, mayStart}
@@ -36,8 +36,8 @@ use Rattle.machine.specs.Decide.{ifAllowed, toSend, toEnd, byStep, decid
 use Rattle.machine.specs.inner.Split.{formed, isPlan, isPlanned}
 use Rattle.machine.proofs.Forms.{step-formed}
 use Rattle.machine.proofs.Fitting.{quarters}
-use Rattle.apic.specs.Vectors.{isVector}
-use Rattle.apic.proofs.Least.{lowest-vector}
+use Rattle.vector_register.specs.Vectors.{isVector}
+use Rattle.vector_register.proofs.Least.{lowest-vector}
 use Rattle.apic.proofs.Sendings.{sending-vect}
 use Rattle.ioapic.proofs.Blocks.{block-words}
 

@@ -10,8 +10,8 @@ use Rattle.records.specs.Records.{stores, walks}
 use Rattle.tables.specs.Views.{coresOf}
 use Rattle.tlb.specs.declared.Decision.{Decision}
 use Rattle.tlb.specs.Steps.{createOn, extendOn, accessedOn}
-use Rattle.apic.specs.declared.vectors.Found.{Found}
-use Rattle.apic.specs.declared.vectors.Found.the-variants.{Vector, None}
+use Rattle.vector_register.specs.declared.Found.{Found}
+use Rattle.vector_register.specs.declared.Found.the-variants.{Vector, None}
 use Rattle.apic.specs.declared.active.Sending.{Sending}
 use Rattle.apic.specs.declared.active.Sending.the-variants as sent
 use Rattle.apic.specs.Active.{sending, pendingEoi, mayInit, mayStart}

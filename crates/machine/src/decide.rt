@@ -2,7 +2,6 @@
 use super::action::Action;
 use apic::active;
 use apic::active::Sending;
-use apic::vectors::Found;
 use cores::IoPorts;
 use cores::Plan;
 use cores::buffer_step;
@@ -11,6 +10,7 @@ use cores::tlb_steps;
 use ioapic::ports;
 use records::Walk;
 use steps::Step;
+use vector_register::Found;
 ghost use mathlib.Core.Path.{_≡_};
 ghost use mathlib.Core.Bool.{true, false};
 ghost use Prim.Native.Nat.{_+_, _*_, _≤_, _%_};

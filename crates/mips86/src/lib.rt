@@ -1,14 +1,7 @@
-// The interface for C and Rust (include/mips86.h): make, step, run, reach, apart, why and translate on lent tables and memory, and disassemble on a word and
-// lent bytes. A slice is a pointer and a length in C, and each operation answers one number; run, reach and translate write one more word, why nine.
-use disassemble::Disassembled;
-use machine::run::Stop;
-use reach::Reached;
-use separation::Verdict;
-use steps::Answer;
-use tables::make::Made;
-use translate::Translated;
+// The interface for C and Rust (include/mips86.h): make, step, run, reach, apart, why and translate on lent tables and memory,
+// and disassemble on a word and lent bytes. A slice is a pointer and a length in C, and each operation answers one number;
+// run, reach and translate write one more word, why nine.
 ghost use mathlib.Core.Path.{_≡_};
-ghost use Prim.Native.Nat.{_<_, _^_};
 ghost use lib.ListN.{length};
 ghost use Rattle.tables.specs.Make as made;
 ghost use Rattle.steps.specs.Answers.{answerNumber};
@@ -20,40 +13,7 @@ ghost use Rattle.separation.specs.Separation.{machineOf, Promised};
 ghost use Rattle.reasons.specs.Why.{told};
 ghost use Rattle.translate.specs.Translate.{translateOn, translatedNumber, readsOf};
 ghost use Rattle.disassemble.specs.Disassembly.{disassembleOn, disassembledNumber};
-ghost use Rattle.mips86.specs.Numbers.{madeNumber, refusalOr0};
-
-fn made_number(a: Made) -> u32
-    ensures { λ r. ⌜ r ≡ madeNumber a ⌝ }
-{
-    match a {
-        Made::Done => 0,
-        Made::Cores => 101,
-        Made::Memory => 102,
-        Made::Length => 103,
-    }
-}
-
-fn answer_number(a: Answer) -> u32
-    requires { ⌜ answerNumber a < 2 ^ 32 ⌝ }
-    ensures { λ r. ⌜ r ≡ answerNumber a ⌝ }
-{
-    match a {
-        Answer::Done => 0,
-        Answer::Interrupt(level) => 1 + level,
-        Answer::Refused(n) => 100 + n,
-    }
-}
-
-fn stop_number(s: Stop) -> u32
-    requires { ⌜ many.stopNumber s < 2 ^ 32 ⌝ }
-    ensures { λ r. ⌜ r ≡ many.stopNumber s ⌝ }
-{
-    match s {
-        Stop::End => 0,
-        Stop::Limit => 1,
-        Stop::Refused(n) => 100 + n,
-    }
-}
+ghost use Rattle.numbers.specs.Numbers.{refusalOr0};
 
 // Makes a machine: 0, or 100 and the number of a refusal.
 #[no_mangle]
@@ -61,7 +21,7 @@ pub extern "C" fn mips86_make(tables: &mut [u32], memory: &[u8], cores: u32) -> 
     ensures { λ r. ⌜ r ≡ refusalOr0 (made.refusal cores (length (now (memory .entry))) (length (now (tables .entry)))) ⌝ }
     ensures { λ _. ⌜ now (tables .exit) ≡ made.madeOr (made.refusal cores (length (now (memory .entry))) (length (now (tables .entry)))) cores (length (now (memory .entry))) (now (tables .entry)) ⌝ }
 {
-    made_number(tables::make::make(tables, memory, cores))
+    numbers::made_number(tables::make::make(tables, memory, cores))
 }
 
 // One step of six words: 0 done, 1 to 8 an interrupt of level 0 to 7, 100 and the number of a refusal.
@@ -71,7 +31,7 @@ pub extern "C" fn mips86_step(tables: &mut [u32], memory: &mut [u8], step: &[u32
     ensures { λ _. ⌜ now (tables .exit) ≡ one.step (now (tables .entry)) (now (memory .entry)) (now (step .entry)) .tables ⌝ }
     ensures { λ _. ⌜ now (memory .exit) ≡ one.step (now (tables .entry)) (now (memory .entry)) (now (step .entry)) .memory ⌝ }
 {
-    answer_number(machine::step(tables, memory, step))
+    steps::answer_number(machine::step(tables, memory, step))
 }
 
 // A schedule of steps: 0 the end, 1 the limit is spent, 100 and the number of a refusal; and how many steps were accepted.
@@ -91,39 +51,7 @@ pub extern "C" fn mips86_run(
     let r = machine::run::run(tables, memory, schedule, limit);
     *accepted = r.accepted;
     let stop = r.stop;
-    stop_number(stop)
-}
-
-fn reached_number(a: Reached) -> u32
-    requires { ⌜ reachedNumber a < 2 ^ 32 ⌝ }
-    ensures { λ r. ⌜ r ≡ reachedNumber a ⌝ }
-{
-    match a {
-        Reached::Inside => 0,
-        Reached::Beyond => 0,
-        Reached::Refused(n) => 100 + n,
-    }
-}
-
-fn beyond_number(a: Reached) -> u32
-    ensures { λ r. ⌜ r ≡ beyondOf a ⌝ }
-{
-    match a {
-        Reached::Inside => 0,
-        Reached::Beyond => 1,
-        Reached::Refused(_) => 0,
-    }
-}
-
-fn verdict_number(a: Verdict) -> u32
-    requires { ⌜ verdictNumber a < 2 ^ 32 ⌝ }
-    ensures { λ r. ⌜ r ≡ verdictNumber a ⌝ }
-{
-    match a {
-        Verdict::No => 0,
-        Verdict::Yes => 1,
-        Verdict::Refused(n) => 100 + n,
-    }
+    numbers::stop_number(stop)
 }
 
 // The pages that a group reaches: 0, or 100 and the number of a refusal; and whether a page beyond memory is reached.
@@ -140,8 +68,8 @@ pub extern "C" fn mips86_reach(
     ensures { λ _. ⌜ now (map .exit) ≡ reachOn group (now (tables .entry)) (now (memory .entry)) (now (map .entry)) .map ⌝ }
 {
     let r = reach::reach(tables, memory, group, map);
-    *beyond = beyond_number(r);
-    reached_number(r)
+    *beyond = numbers::beyond_number(r);
+    numbers::reached_number(r)
 }
 
 // Whether a group is apart from the rest: 0 no, 1 yes, 100 and the number of a refusal. A yes makes the promise of separation.
@@ -150,7 +78,7 @@ pub extern "C" fn mips86_apart(tables: &[u32], memory: &[u8], group: u32) -> u32
     ensures { λ r. ⌜ r ≡ verdictNumber (apartOn group (now (tables .entry)) (now (memory .entry))) ⌝ }
     ensures { λ r. ⌜ (r ≡ 1 → Promised group (machineOf (now (tables .entry)) (now (memory .entry)))) ⌝ }
 {
-    verdict_number(separation::apart(tables, memory, group))
+    numbers::verdict_number(separation::apart(tables, memory, group))
 }
 
 // Why a group is not apart: 0 no reason after reason `after`, 1 to 6 the first one, with the rest of it in nine words, 100 and the number of a refusal.
@@ -168,25 +96,6 @@ pub extern "C" fn mips86_why(
     reasons::tell(tables, memory, group, after, words)
 }
 
-fn translated_number(a: Translated) -> u32
-    requires { ⌜ translatedNumber a < 2 ^ 32 ⌝ }
-    ensures { λ r. ⌜ r ≡ translatedNumber a ⌝ }
-{
-    match a {
-        Translated::Done(_) => 0,
-        Translated::Refused(n) => 100 + n,
-    }
-}
-
-fn reads_number(a: Translated) -> u32
-    ensures { λ r. ⌜ r ≡ readsOf a ⌝ }
-{
-    match a {
-        Translated::Done(n) => n,
-        Translated::Refused(_) => 0,
-    }
-}
-
 // Where up to 64 virtual addresses of a core lead, three words each: 0, or 100 and the number of a refusal; and how many table entries were read.
 #[no_mangle]
 pub extern "C" fn mips86_translate(
@@ -202,18 +111,8 @@ pub extern "C" fn mips86_translate(
     ensures { λ _. ⌜ now (answers .exit) ≡ translateOn core (now (addresses .entry)) (now (tables .entry)) (now (memory .entry)) (now (answers .entry)) .words ⌝ }
 {
     let r = translate::translate(tables, memory, core, addresses, answers);
-    *reads = reads_number(r);
-    translated_number(r)
-}
-
-fn disassembled_number(a: Disassembled) -> u32
-    requires { ⌜ disassembledNumber a < 2 ^ 32 ⌝ }
-    ensures { λ r. ⌜ r ≡ disassembledNumber a ⌝ }
-{
-    match a {
-        Disassembled::Length(n) => n,
-        Disassembled::Refused(n) => 100 + n,
-    }
+    *reads = numbers::reads_number(r);
+    numbers::translated_number(r)
 }
 
 // The text of an instruction word in 32 bytes, zero beyond it: its length, or 100 and the number of a refusal.
@@ -222,5 +121,5 @@ pub extern "C" fn mips86_disassemble(word: u32, text: &mut [u8]) -> u32
     ensures { λ r. ⌜ r ≡ disassembledNumber (disassembleOn word (now (text .entry)) .answer) ⌝ }
     ensures { λ _. ⌜ now (text .exit) ≡ disassembleOn word (now (text .entry)) .bytes ⌝ }
 {
-    disassembled_number(disassemble::disassemble(word, text))
+    numbers::disassembled_number(disassemble::disassemble(word, text))
 }

@@ -15,14 +15,14 @@ use Rattle.word.specs.Bytes.{byte}
 use Rattle.word.proofs.Laws.{side}
 use Rattle.layout.specs.Layout as at
 use Rattle.tables.specs.Views.{portByte, sipirrOf, initrrOf}
-use Rattle.apic.specs.declared.vectors.Found.{Found}
-use Rattle.apic.specs.declared.vectors.Found.the-variants.{Vector, None}
-use Rattle.apic.specs.Vectors.{withVector, least, lowest, marked, isVector}
-use Rattle.apic.specs.Vectors as vectors
+use Rattle.vector_register.specs.declared.Found.{Found}
+use Rattle.vector_register.specs.declared.Found.the-variants.{Vector, None}
+use Rattle.vector_register.specs.Vectors.{withVector, least, lowest, marked, isVector}
+use Rattle.vector_register.specs.Vectors as vectors
 use Rattle.apic.specs.LocalApic as local
 use Rattle.apic.specs.Active as active
-use Rattle.apic.proofs.Least.{least-vector}
-use Rattle.apic.proofs.Registers.{vector-same, vector-other}
+use Rattle.vector_register.proofs.Least.{least-vector}
+use Rattle.vector_register.proofs.Registers.{vector-same, vector-other}
 use Rattle.report.specs.Configuration.{Apic, upd, withPorts, withInit, withSipi, withEoipending}
 use Rattle.report.specs.Components.{inside, bitAt, withBitAt, icr, isr, irr, min, atVector, written, ended, ΣApic, δapic}
 use Rattle.report.specs.View.{apicOf, SameApic}

@@ -18,21 +18,21 @@ use Rattle.tables.specs.Sound.{sound}
 use Rattle.tables.proofs.Parts.{words-of}
 use Rattle.tables.proofs.Places.{words-facts}
 use Rattle.tables.proofs.Lift.{header, core-fits, core-long, core-sound}
-use Rattle.apic.specs.declared.vectors.Found.{Found}
-use Rattle.apic.specs.declared.vectors.Found.the-variants.{Vector, None}
+use Rattle.vector_register.specs.declared.Found.{Found}
+use Rattle.vector_register.specs.declared.Found.the-variants.{Vector, None}
 use Rattle.apic.specs.declared.local.Kind.{Kind}
 use Rattle.apic.specs.declared.local.Kind.the-variants as sort
 use Rattle.apic.specs.declared.active.Target.{Target}
 use Rattle.apic.specs.declared.active.Target.the-variants.{Id, Own, All, AllButOwn}
 use Rattle.apic.specs.declared.active.Ipi.{Ipi}
 use Rattle.apic.specs.declared.active.Sending.the-variants as sent
-use Rattle.apic.specs.Vectors.{isVector}
+use Rattle.vector_register.specs.Vectors.{isVector}
 use Rattle.apic.specs.LocalApic.{idOf, received}
 use Rattle.apic.specs.Active.{ipiOf, sending, idle, aimed, receivedBy, pendingEoi, eoiSent}
 use Rattle.word.proofs.Bits.{bit-lt, one-not-zero}
 use Rattle.word.proofs.Words.{Words}
 use Rattle.apic.proofs.Kept.{Kept, Passive, kept-all, kept-then, kept-idle, kept-received, kept-received-by, kept-vector}
-use Rattle.apic.proofs.Least.{lowest-vector}
+use Rattle.vector_register.proofs.Least.{lowest-vector}
 use Rattle.ioapic.specs.Blocks.{onBlock}
 use Rattle.ioapic.specs.IoApic.{entry, vect, acknowledged, onEntries, eoiReceived}
 use Rattle.ioapic.specs.Bus.{sendIpi, sendEoi}

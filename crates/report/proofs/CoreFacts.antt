@@ -21,11 +21,12 @@ use Rattle.tlb.specs.declared.Faulting.{Faulting}
 use Rattle.tlb.specs.declared.Faulting.the-variants.{Faults, Passes, Undecided}
 use Rattle.tlb.specs.Walks as tlb
 use Rattle.tables.specs.Views.{coresOf}
-use Rattle.apic.specs.declared.vectors.Found.{Found}
-use Rattle.apic.specs.declared.vectors.Found.the-variants.{Vector, None}
-use Rattle.apic.specs.Vectors as vectors
+use Rattle.vector_register.specs.declared.Found.{Found}
+use Rattle.vector_register.specs.declared.Found.the-variants.{Vector, None}
+use Rattle.vector_register.specs.Vectors as vectors
 use Rattle.apic.specs.LocalApic as local
-use Rattle.apic.specs.LocalApic.{event, someUpTo}
+use Rattle.vector_register.specs.Vectors.{someUpTo}
+use Rattle.apic.specs.LocalApic.{event}
 use Rattle.steps.specs.declared.Step.the-variants.{Core}
 use Rattle.cores.specs.Core.{View, viewOf, isEvent, vectorOf, causes, causesWithout, suppressed, physical, isAccess, dataRequestOf, fetchRequestOf}
 use Rattle.report.specs.Configuration.{Configuration}

@@ -1,6 +1,4 @@
 // The run program of 01: a machine and its steps from standard input, an answer for each on standard output.
-mod lines;
-
 use layout::BLOCK_WORDS;
 use layout::HEADER_WORDS;
 use layout::PAGE_BYTES;

@@ -15,7 +15,7 @@ use Rattle.tlb.specs.Walks.{walkOf}
 use Rattle.store_buffer.specs.Buffer.{sbehit, sbhit, newestFrom, sbv, some, sbhazard}
 use Rattle.store_buffer.specs.System.{msOf, reads, loaded}
 use Rattle.store_buffer.specs.Figures.{pending, pendingLoad, valueOf}
-use Rattle.apic.specs.Vectors.{withVector, least}
+use Rattle.vector_register.specs.Vectors.{withVector, least}
 use Rattle.apic.specs.LocalApic.{eoiWritten, portWritten}
 use Rattle.apic.specs.Figures.{isrAfterEoi}
 use Rattle.isa.specs.declared.registers.Registers.{Registers}

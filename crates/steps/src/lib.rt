@@ -1,8 +1,9 @@
 // What a step is, as six words say it, and what it answers.
 use records::Walk;
 ghost use mathlib.Core.Path.{_≡_};
-ghost use Prim.Native.Nat.{_<_};
+ghost use Prim.Native.Nat.{_<_, _^_};
 ghost use lib.ListN.{length};
+ghost use Rattle.steps.specs.Answers.{answerNumber};
 ghost use Rattle.steps.specs.Form as f;
 
 pub enum Step {
@@ -29,6 +30,18 @@ pub enum Answer {
     Interrupt(u32),
     // The number of the refusal.
     Refused(u32),
+}
+
+// The answer as one number.
+pub fn answer_number(a: Answer) -> u32
+    requires { ⌜ answerNumber a < 2 ^ 32 ⌝ }
+    ensures { λ r. ⌜ r ≡ answerNumber a ⌝ }
+{
+    match a {
+        Answer::Done => 0,
+        Answer::Interrupt(level) => 1 + level,
+        Answer::Refused(n) => 100 + n,
+    }
 }
 
 fn walk_at(s: &[u32], i: usize) -> Walk

@@ -2,7 +2,7 @@
 -- Assumes nothing.
 use borrow.Author.Needs.{needs}
 use mathlib.Core.Path.{ap, _∙_}
-use Rattle.mips86.specs.Numbers.{refusalOr0}
+use Rattle.numbers.specs.Numbers.{refusalOr0}
 use Rattle.mips86.proofs.mips86_make.Statement.{statement}
 use Rattle.mips86.proofs.mips86_make.Tie as tie
 

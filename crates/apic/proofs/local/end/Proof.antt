@@ -4,7 +4,7 @@ use mathlib.Core.Path.{_∙_}
 use native.Mathlib.Omega.{arith}
 use lib.ListN.{length-set}
 use Rattle.apic.specs.LocalApic.{isr, eoiWritten}
-use Rattle.apic.proofs.Least.{lowest-vector}
+use Rattle.vector_register.proofs.Least.{lowest-vector}
 use Rattle.apic.proofs.local.end.Statement.{statement}
 use Rattle.apic.proofs.local.end.Tie as tie
 

@@ -2,7 +2,8 @@
 use borrow.Author.Needs.{needs}
 use mathlib.Core.Path.{sym, _∙_}
 use borrow.Author.Tests.{not-true}
-use Rattle.apic.proofs.Events.{none-set, event-none, event-free, event-below, event-masked}
+use Rattle.vector_register.proofs.Some.{none-set}
+use Rattle.apic.proofs.Events.{event-none, event-free, event-below, event-masked}
 use Rattle.apic.proofs.local.event.Statement.{statement}
 use Rattle.apic.proofs.local.event.Tie as tie
 

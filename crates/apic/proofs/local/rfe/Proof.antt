@@ -3,7 +3,7 @@ use borrow.Author.Needs.{needs}
 use mathlib.Core.Path.{_∙_}
 use native.Mathlib.Omega.{arith}
 use Rattle.apic.specs.LocalApic.{isr, onRfe}
-use Rattle.apic.proofs.Least.{lowest-vector}
+use Rattle.vector_register.proofs.Least.{lowest-vector}
 use Rattle.apic.proofs.local.rfe.Statement.{statement}
 use Rattle.apic.proofs.local.rfe.Tie as tie
 

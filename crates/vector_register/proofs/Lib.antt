@@ -1,0 +1,4 @@
+pub mod Least
+pub mod Words
+pub mod Some
+pub mod Registers
