@@ -69,7 +69,7 @@ extern "C" {
  *   10 no free record                              (step, run)
  *   11 schedule not of whole steps, or over 1,024  (run)
  *   12 the map's length is not the page count      (reach)
- *      or the length of the words is not nine      (why)
+ *      or the length of the words is not 18        (why)
  *   13 group empty, or names a core not there      (reach, apart, why)
  *   14 core not there                              (translate)
  *   15 more than 64 addresses                      (translate)
@@ -146,14 +146,16 @@ uint32_t mips86_apart(const uint32_t *tables, size_t ntables, const uint8_t *mem
  * Why is the group not apart? The conditions of apart come in their order, as reasons 1 to 6. Asks for the first reason
  * that holds and has a number above `after`: with 0 for the first of all, with an answer for the one after it.
  * Answers 0 where there is none, the reason's number, or a refusal (4, 12, 13). With `after` 0 the answer is 0 exactly
- * where apart answers yes. Reasons 4 to 6 are about pages in memory. Writes the nine words, which a refusal leaves.
+ * where apart answers yes. Reasons 4 to 6 are about pages in memory. Writes the 18 words, which a refusal leaves.
  * Uses some 42 KB of stack.
  *
  * A reason names the lowest page at fault and one way to it: it begins at the core's pto, at a walk or at a pending
- * store, and goes on through up to two present entries. That each way is real, followed entry by entry to the page and
- * with the right that spoils the verdict, is proved. Words that a reason does not have are zero.
+ * store, and goes on through up to two present entries. Reason 6 names two: how the rest writes the page or uses it as a
+ * table, in words 0 to 8, and how the group reaches it, in words 9 to 17; either may be the fault. That each way is
+ * real, followed entry by entry to the page and with the right that spoils the verdict, is proved. Words that a reason
+ * does not have are zero.
  */
-#define MIPS86_WHY_WORDS 9
+#define MIPS86_WHY_WORDS 18
 
 #define MIPS86_NO_REASON 0u
 #define MIPS86_NOT_USER 1u     /* a core of the group, or another running core, is not running in user mode */
@@ -172,6 +174,7 @@ uint32_t mips86_apart(const uint32_t *tables, size_t ntables, const uint8_t *mem
 #define MIPS86_WHY_ENTRIES 6 /* how many entries the way goes through, 0 to 2 */
 #define MIPS86_WHY_FIRST 7   /* their addresses; entry i of a table is at i * 4 in its page, so that a way from pto */
 #define MIPS86_WHY_SECOND 8  /* through both is that of virtual page (first / 4 % 1024) * 1024 + second / 4 % 1024 */
+#define MIPS86_WHY_OWN 9     /* of reason 6: where the words of the group's own way start, in the same order */
 
 uint32_t mips86_why(const uint32_t *tables, size_t ntables, const uint8_t *memory, size_t nmemory, uint32_t group,
                     uint32_t after, uint32_t *words, size_t nwords);

@@ -414,31 +414,32 @@ static void make_sides(void) {
 
 /* the reason after a number, of cores 0 and 1, and its words; neither tables nor memory are written */
 static void tells(int line, uint32_t after, uint32_t number, const uint32_t *reason) {
-    uint32_t told[10];
+    uint32_t told[MIPS86_WHY_WORDS + 1];
     memset(told, 0xEE, sizeof told);
     remember();
-    check_at(line, "why", mips86_why(tables, words, memory, length, 3, after, told, 9), number);
-    for (int k = 0; k < 9; k++) check_at(line, "a word of the reason", told[k], reason[k]);
-    check_at(line, "the word after the reason", told[9], 0xEEEEEEEE);
+    check_at(line, "why", mips86_why(tables, words, memory, length, 3, after, told, MIPS86_WHY_WORDS), number);
+    for (int k = 0; k < MIPS86_WHY_WORDS; k++) check_at(line, "a word of the reason", told[k], reason[k]);
+    check_at(line, "the word after the reason", told[MIPS86_WHY_WORDS], 0xEEEEEEEE);
     check_at(line, "SAME()", SAME(), 1);
 }
-#define TELLS(after, number, ...) tells(__LINE__, after, number, (const uint32_t[9]){__VA_ARGS__})
+#define TELLS(after, number, ...) tells(__LINE__, after, number, (const uint32_t[MIPS86_WHY_WORDS]){__VA_ARGS__})
 
 static void tells_refusal(int line, uint32_t group, size_t nwords, uint32_t number) {
-    uint32_t told[10];
+    uint32_t told[MIPS86_WHY_WORDS + 1];
     memset(told, 0xEE, sizeof told);
     check_at(line, "why", mips86_why(tables, words, memory, length, group, 0, told, nwords), MIPS86_REFUSED + number);
-    for (int k = 0; k < 10; k++) check_at(line, "a word of no reason", told[k], 0xEEEEEEEE);
+    for (int k = 0; k <= MIPS86_WHY_WORDS; k++) check_at(line, "a word of no reason", told[k], 0xEEEEEEEE);
 }
 
 static void test_why(void) {
     make_sides();
     TELLS(0, MIPS86_NO_REASON, 0);
-    tells_refusal(__LINE__, 3, 8, 12);
-    tells_refusal(__LINE__, 3, 10, 12);
-    tells_refusal(__LINE__, 0, 8, 12);
-    tells_refusal(__LINE__, 0, 9, 13);
-    tells_refusal(__LINE__, 16, 9, 13);
+    tells_refusal(__LINE__, 3, 9, 12);
+    tells_refusal(__LINE__, 3, 17, 12);
+    tells_refusal(__LINE__, 3, 19, 12);
+    tells_refusal(__LINE__, 0, 17, 12);
+    tells_refusal(__LINE__, 0, 18, 13);
+    tells_refusal(__LINE__, 16, 18, 13);
     tables[BLOCK + 4] = 77; /* a general register says nothing */
     TELLS(0, MIPS86_NO_REASON, 0);
     tables[BLOCK + RUNNING] = 2;
@@ -460,17 +461,23 @@ static void test_why(void) {
     TELLS(2, MIPS86_REST_BEYOND, 2, 16, 2, 0, 1, 5);
     TELLS(3, MIPS86_GROUP_TABLE, 0, 2, 0, 1, 0, 0, 2, 0x1000, 0x2018);
     TELLS(4, MIPS86_REST_TABLE, 2, 5, 0, 1, 2, 6);
-    TELLS(5, MIPS86_TOUCHES, 2, 4, 0, 1, 0, 0, 2, 0x5000, 0x6010);
+    TELLS(5, MIPS86_TOUCHES, 2, 4, 0, 1, 0, 0, 2, 0x5000, 0x6010, 0, 4, 0, 0, 0, 0, 2, 0x1000, 0x2004);
     TELLS(6, MIPS86_NO_REASON, 0);
     TELLS(0xFFFFFFFF, MIPS86_NO_REASON, 0);
 
     /* a walk of the rest that has not come to its end uses a page of the group as a table */
     make_sides();
     walk(2, 1, 0, 3);
-    TELLS(0, MIPS86_TOUCHES, 2, 3, 1, 0, 1, 5);
+    TELLS(0, MIPS86_TOUCHES, 2, 3, 1, 0, 1, 5, 0, 0, 0, 0, 3, 0, 1, 0, 0, 2, 0x1000, 0x2000);
     make_sides();
     entry(5, 7, 4, 0, 1);
-    TELLS(0, MIPS86_TOUCHES, 2, 4, 1, 0, 0, 0, 1, 0x501C);
+    TELLS(0, MIPS86_TOUCHES, 2, 4, 1, 0, 0, 0, 1, 0x501C, 0, 0, 4, 0, 0, 0, 0, 2, 0x1000, 0x2004);
+
+    /* the group's own way by a pending store, which its tables do not lead to */
+    make_sides();
+    store(1, 0x9000);
+    store(2, 0x9004);
+    TELLS(0, MIPS86_TOUCHES, 2, 9, 0, 1, 2, 5, 0, 0, 0, 1, 9, 0, 1, 2, 3);
 }
 
 /* the verdict for cores 0 and 1 on the sides with one thing changed, and the same sides again */

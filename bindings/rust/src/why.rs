@@ -45,7 +45,7 @@ impl Way {
     }
 }
 
-/// Why a group is not apart, with the lowest page at fault and one way to it.
+/// Why a group is not apart, with the lowest page at fault and one way of a side to it.
 #[derive(Clone, Debug, PartialEq, Eq)]
 pub enum Reason {
     /// This core, of the group or another running one, is not running in user mode.
@@ -54,13 +54,16 @@ pub enum Reason {
     BeyondMemory(Side, Way),
     /// A side can write a page of memory that it uses as a table.
     OwnTable(Side, Way),
-    /// The rest can write, or uses as a table, a page of memory that the group reaches.
-    Touches(Way),
+    /// The rest can write, or uses as a table, a page of memory that the group reaches: the way of either to it.
+    Touches { rest: Way, group: Way },
 }
 
-/// The words of a reason, and its number.
-fn ask(tables: &[u32], memory: &[u8], group: u32, after: u32) -> (u32, [u32; 9]) {
-    let mut words = [0; 9];
+/// Words of a way.
+const WAY_WORDS: usize = 9;
+
+/// The number of a reason, and its words: those of a way and, of the last reason, of a second one.
+fn ask(tables: &[u32], memory: &[u8], group: u32, after: u32) -> (u32, [u32; 2 * WAY_WORDS]) {
+    let mut words = [0; 2 * WAY_WORDS];
     // SAFETY: as in `make`; only `words`, a local, is written.
     let n = unsafe {
         c::mips86_why(
@@ -77,8 +80,10 @@ fn ask(tables: &[u32], memory: &[u8], group: u32, after: u32) -> (u32, [u32; 9])
     (n, words)
 }
 
-fn way(words: &[u32; 9]) -> Way {
-    let &[core, page, level, write, root, record, entries, first, second] = words;
+fn way(words: &[u32]) -> Way {
+    let &[core, page, level, write, root, record, entries, first, second] = words else {
+        unreachable!("a way has {WAY_WORDS} words")
+    };
     Way {
         core,
         root: match root {
@@ -95,14 +100,15 @@ fn way(words: &[u32; 9]) -> Way {
 
 fn after(tables: &[u32], memory: &[u8], group: u32, number: u32) -> Result<Option<(u32, Reason)>, u32> {
     let (n, words) = ask(tables, memory, group, number);
+    let (first, second) = words.split_at(WAY_WORDS);
     let reason = match n {
         0 => return Ok(None),
-        1 => Reason::NotUser(words[0]),
-        2 => Reason::BeyondMemory(Side::Group, way(&words)),
-        3 => Reason::BeyondMemory(Side::Rest, way(&words)),
-        4 => Reason::OwnTable(Side::Group, way(&words)),
-        5 => Reason::OwnTable(Side::Rest, way(&words)),
-        6 => Reason::Touches(way(&words)),
+        1 => Reason::NotUser(first[0]),
+        2 => Reason::BeyondMemory(Side::Group, way(first)),
+        3 => Reason::BeyondMemory(Side::Rest, way(first)),
+        4 => Reason::OwnTable(Side::Group, way(first)),
+        5 => Reason::OwnTable(Side::Rest, way(first)),
+        6 => Reason::Touches { rest: way(first), group: way(second) },
         n => return Err(n - REFUSED),
     };
     Ok(Some((n, reason)))

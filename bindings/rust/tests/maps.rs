@@ -49,8 +49,11 @@ fn a_competitors_page() {
     assert_eq!(verdicts(&m), expected);
     let north = way(1, [0x6004, 0x7400], 25);
     assert_eq!(north.virtual_page(), Some(0x00500));
-    assert_eq!(m.why(0b0100), Ok(Some(Reason::Touches(north.clone()))));
-    assert_eq!(m.reasons(0b1101), Ok(vec![Reason::Touches(north)]));
+    let baltic = Way { write: false, ..way(2, [0x8004, 0x9408], 25) };
+    assert_eq!(baltic.virtual_page(), Some(0x00502));
+    let touches = Reason::Touches { rest: north, group: baltic };
+    assert_eq!(m.why(0b0100), Ok(Some(touches.clone())));
+    assert_eq!(m.reasons(0b1101), Ok(vec![touches]));
 }
 
 /// A side whose own table it can write spoils every verdict, on whichever side it is.

@@ -151,7 +151,10 @@ fn expected(m: &Machine, group: u32) -> Vec<Reason> {
     }
     let reached: Vec<u32> = sides[0].1.iter().map(|w| w.page).collect();
     let fault = lowest(&sides[1].1, |w| inside(w) && (w.level > 0 || w.write) && reached.contains(&w.page));
-    all.extend(fault.map(Reason::Touches));
+    all.extend(fault.map(|rest| {
+        let group = sides[0].1.iter().find(|own| own.page == rest.page).unwrap().clone();
+        Reason::Touches { rest, group }
+    }));
     all
 }
 
@@ -172,7 +175,7 @@ fn reasons_by_a_listing_of_ways() {
                     Reason::NotUser(_) => 0,
                     Reason::BeyondMemory(side, _) => 1 + side as usize,
                     Reason::OwnTable(side, _) => 3 + side as usize,
-                    Reason::Touches(_) => 5,
+                    Reason::Touches { .. } => 5,
                 };
                 kinds[kind] += 1;
             }

@@ -25,12 +25,12 @@ use Rattle.reasons.specs.declared.Side.the-variants.{Group, Rest}
 use Rattle.reasons.specs.declared.Reason.{Reason}
 use Rattle.reasons.specs.declared.Reason.the-variants.{NoReason, Refused, NotUser, BeyondMemory, OwnTable, Touches}
 use Rattle.reasons.specs.Ways.{ways}
-use Rattle.reasons.specs.Why.{page, lower, lowestWay, grants, spoils, byWay, fails, firstFailing, modeReason, beyondReason, tableReason, touchReason, reasonAt, sideNumber, whyNumber, firstAfter, whyAfter}
+use Rattle.reasons.specs.Why.{page, lower, lowestWay, grants, spoils, byWay, wayTo, withOwn, fails, firstFailing, modeReason, beyondReason, tableReason, touchReason, reasonAt, sideNumber, whyNumber, firstAfter, whyAfter}
 use Rattle.reasons.specs.inner.Search.{isNone}
 use Rattle.reasons.specs.Grounds.{Real, Outside, Written, Met, Grounded, Law}
 use Rattle.reasons.proofs.Lists.{each-weak, each-select}
 use Rattle.reasons.proofs.Real.{ways-real}
-use Rattle.reasons.proofs.None.{no-reason}
+use Rattle.reasons.proofs.None.{Holds, lowest-holds, no-reason}
 
 none-is : (x : Reason) → isNone x ≡ true → x ≡ NoReason
 none-is NoReason e = refl
@@ -38,7 +38,7 @@ none-is (Refused n) e = let z = eqb-true (100 + n) 0 e in absurd (omega arith)
 none-is (NotUser k) e = absurd (false≢true e)
 none-is (BeyondMemory s w) e = let z = eqb-true (2 + sideNumber s) 0 e in absurd (omega arith)
 none-is (OwnTable s w) e = let z = eqb-true (4 + sideNumber s) 0 e in absurd (omega arith)
-none-is (Touches w) e = absurd (false≢true e)
+none-is (Touches w v) e = absurd (false≢true e)
 
 -- the lowest of some ways is one of them
 lowest-is : (G : Reason → Type 0) (f : Way → Reason) (l : List Way) → G NoReason → Each (λ w. G (f w)) l → G (byWay f (lowestWay l))
@@ -91,8 +91,19 @@ module _ (g : ℕ) (t m : List ℕ) where
   written : (ks : List ℕ) → Each (Written ks t m) (select (λ w. grants w && (ltb (page w) (pagesOf t) && has (page w) (tablePages (reach ks t m)))) (ways ks t m))
   written ks = passing ks t m (Written ks t m) (λ w. grants w && (ltb (page w) (pagesOf t) && has (page w) (tablePages (reach ks t m)))) (λ w r e. record { real = r; granting = and-left (grants w) _ e; is-table = and-right (ltb (page w) (pagesOf t)) _ (and-right (grants w) _ e) })
 
-  met : Each (Met cs os t m) (select (λ w. spoils w && (ltb (page w) (pagesOf t) && has (page w) (reached (reach cs t m)))) (ways os t m))
-  met = passing os t m (Met cs os t m) (λ w. spoils w && (ltb (page w) (pagesOf t) && has (page w) (reached (reach cs t m)))) (λ w r e. record { real = r; spoiling = and-left (spoils w) _ e; is-reached = and-right (ltb (page w) (pagesOf t)) _ (and-right (spoils w) _ e) })
+  -- a way of the rest, and then the group's own
+  abbrev Touching : Way → Type 0
+  Touching w = Real os t m w × ((spoils w ≡ true) × (has (page w) (reached (reach cs t m)) ≡ true))
+
+  touching : Each Touching (select (λ w. spoils w && (ltb (page w) (pagesOf t) && has (page w) (reached (reach cs t m)))) (ways os t m))
+  touching = passing os t m Touching (λ w. spoils w && (ltb (page w) (pagesOf t) && has (page w) (reached (reach cs t m)))) (λ w r e. (r, (and-left (spoils w) _ e, and-right (ltb (page w) (pagesOf t)) _ (and-right (spoils w) _ e))))
+
+  met : (f : Found) → Holds Touching f → G (withOwn (ways cs t m) f)
+  unfolding wayTo
+  met Nothing h = tt
+  met (Lowest w) h =
+      lowest-is G (Touches w) (select (λ v. eqb (page v) (page w)) (ways cs t m)) tt
+      (passing cs t m (λ v. G (Touches w v)) (λ v. eqb (page v) (page w)) (λ v r e. record { real = h .0; spoiling = h .1 .0; is-reached = h .1 .1; own-real = r; same-page = eqb-true (page v) (page w) e }))
 
   reason-ground : (n : ℕ) → G (reasonAt g t m n)
   unfolding reasonAt modeReason beyondReason tableReason touchReason
@@ -102,7 +113,10 @@ module _ (g : ℕ) (t m : List ℕ) where
       (λ _. if-both G (eqb n 3) (beyondReason Rest os t m) _ (λ _. lowest-is G (BeyondMemory Rest) _ tt (outside os))
       (λ _. if-both G (eqb n 4) (tableReason Group cs t m) _ (λ _. lowest-is G (OwnTable Group) _ tt (written cs))
       (λ _. if-both G (eqb n 5) (tableReason Rest os t m) (touchReason cs os t m) (λ _. lowest-is G (OwnTable Rest) _ tt (written os))
-      (λ _. lowest-is G Touches _ tt met)))))
+      (λ _. met (lowestWay others) (lowest-holds Touching others touching))))))
+    where
+      others : List Way
+      others = select (λ w. spoils w && (ltb (page w) (pagesOf t) && has (page w) (reached (reach cs t m)))) (ways os t m)
 
   after-ground : (d a : ℕ) → G (firstAfter g t m d a)
   unfolding firstAfter
@@ -143,8 +157,8 @@ module _ (g : ℕ) (t m : List ℕ) where
 
 -- what the function promises of its answer
 pub promised : (a g : ℕ) (t m : List ℕ) (r : Reason) → r ≡ whyAfter a g t m
-    → (r ≡ whyAfter a g t m) × (Grounded g t m r × ((a ≡ 0 → r ≡ NoReason → apartOn g t m ≡ verdict.Yes) × (a ≡ 0 → apartOn g t m ≡ verdict.Yes → r ≡ NoReason)))
+    → (r ≡ whyAfter a g t m) × (Grounded g t m r × ((a ≡ 0 → r ≡ NoReason → apartOn g t m ≡ verdict.Yes) × ((a ≡ 0 → apartOn g t m ≡ verdict.Yes → r ≡ NoReason) × (whyNumber r ≡ whyNumber (whyAfter a g t m)))))
 promised a g t m r e =
     let L : Law g t m = why-law g t m in
     let at : a ≡ 0 → r ≡ whyAfter 0 g t m = λ z. e ∙ ap (λ (n : ℕ). whyAfter n g t m) z in
-    (e, (subst (Grounded g t m) (sym e) (L .grounded a), (λ z n. L .apart-where-none (sym (at z) ∙ n), λ z y. at z ∙ L .none-where-apart y)))
+    (e, (subst (Grounded g t m) (sym e) (L .grounded a), (λ z n. L .apart-where-none (sym (at z) ∙ n), (λ z y. at z ∙ L .none-where-apart y, ap (λ (x : Reason). whyNumber x) e))))

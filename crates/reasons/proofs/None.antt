@@ -6,9 +6,9 @@ use mathlib.Core.List.{List, [], _∷_, _++_, map, flatMap}
 use Prim.Native.Nat.{ℕ, zero, suc, _+_, _-_}
 use lib.Dec.{eqb, ltb}
 use native.Mathlib.Omega.{arith}
-use borrow.Author.Tests.{eqb-true, le-ltb, ne-eqb}
+use borrow.Author.Tests.{eqb-true, eq-eqb, le-ltb, ne-eqb, not-true}
 use Rattle.word.specs.Word.{if_then_else_, isSet}
-use Rattle.word.proofs.Truth.{and-left, and-right, and-true, and-assoc, and-turn, tested}
+use Rattle.word.proofs.Truth.{and-left, and-right, and-true, and-assoc, and-turn, tested, clash}
 use Rattle.layout.specs.Blocks.{block}
 use Rattle.records.specs.Records.{all}
 use Rattle.tables.specs.Views.{coresOf, pagesOf, runs}
@@ -17,7 +17,7 @@ use Rattle.tlb.specs.declared.Entry.the-variants.{Word, Missing}
 use Rattle.tlb.specs.Walks.{entryAt, pteaAt, pteP, pteR, pteBa}
 use Rattle.reach.specs.Lists.{range, has, select}
 use Rattle.reach.specs.Reach.{Pages, members, grantsWrite, reach, tablePages, reached, inMemory}
-use Rattle.reach.proofs.Lists.{Each, each-append, each-flatMap, all-append, in-all, disjoint-in, both-ways, flatMap-ext, flatMap-append, flatMap-map}
+use Rattle.reach.proofs.Lists.{Each, each-append, each-flatMap, all-append, all-in, in-all, disjoint-in, both-ways, flatMap-ext, flatMap-append, flatMap-map}
 use Rattle.separation.specs.Apart.{rest, runsAsUser, disjoint, closed, pagesApart, apart}
 use Rattle.separation.proofs.Deciding.{users-are}
 use Rattle.reasons.specs.declared.Named.{Named}
@@ -29,9 +29,9 @@ use Rattle.reasons.specs.declared.Side.the-variants.{Group, Rest}
 use Rattle.reasons.specs.declared.Reason.{Reason}
 use Rattle.reasons.specs.declared.Reason.the-variants.{NoReason, NotUser, BeyondMemory, OwnTable, Touches}
 use Rattle.reasons.specs.Ways.{naming, roots, rootWay, entryNamed, nextNamed, further, nextWays, onward, allFrom, coreWays, ways}
-use Rattle.reasons.specs.Why.{page, lower, lowestWay, grants, spoils, byWay, fails, firstFailing, modeReason, beyondReason, tableReason, touchReason, reasonAt, sideNumber, orElse, firstAfter}
+use Rattle.reasons.specs.Why.{page, lower, lowestWay, grants, spoils, byWay, wayTo, withOwn, fails, firstFailing, modeReason, beyondReason, tableReason, touchReason, reasonAt, sideNumber, orElse, firstAfter}
 use Rattle.reasons.specs.inner.Search.{isNone}
-use Rattle.reasons.proofs.Lists.{flat-flat, each-map, each-through, all-map, all-ext, all-flatMap, all-both, all-selected}
+use Rattle.reasons.proofs.Lists.{flat-flat, each-map, each-weak, each-select, each-through, all-map, all-ext, all-flatMap, all-both, all-selected}
 use Rattle.reasons.proofs.Pages.{rootWays, atLevel, firstWays, secondWays, dataWays, writeWays, first-pages, second-pages, data-pages, writable-pages}
 
 -- ---- the ways of all levels
@@ -260,6 +260,10 @@ module _ (cs t m : List ℕ) (r : ℕ → Bool) where
 
 -- ---- reasons
 
+each-any : (l : List Way) → Each (λ w. Unit {0}) l
+each-any [] = tt
+each-any (w ∷ l) = (tt, each-any l)
+
 or-none : (a b : Reason) → isNone (orElse a b) ≡ isNone a && isNone b
 or-none a b = go (isNone a) refl
   where
@@ -292,6 +296,40 @@ lowest-nothing p (w ∷ l) = go (p w) (lowest-nothing p l)
 by-way : (f : Way → Reason) → ((w : Way) → isNone (f w) ≡ false) → (x : Found) → isNone (byWay f x) ≡ isNothing x
 by-way f h Nothing = refl
 by-way f h (Lowest w) = h w
+
+-- what was found, if anything
+abbrev pub Holds : (Way → Type 0) → Found → Type 0
+Holds P Nothing = Unit {0}
+Holds P (Lowest w) = P w
+
+-- the lowest of some ways is one of them
+pub lowest-holds : (P : Way → Type 0) (l : List Way) → Each P l → Holds P (lowestWay l)
+unfolding lower lowestWay
+lowest-holds P [] e = tt
+lowest-holds P (w ∷ l) e = go (lowestWay l) (lowest-holds P l (e .1))
+  where
+    pick : (v : Way) (b : Bool) → P v → Holds P (if b then Lowest v else Lowest w)
+    pick v true h = h
+    pick v false h = e .0
+
+    go : (x : Found) → Holds P x → Holds P (lower (Lowest w) x)
+    go Nothing h = e .0
+    go (Lowest v) h = pick v (ltb (page v) (page w)) h
+
+-- a page that is reached has a way to it
+way-there : (cs t m : List ℕ) (p : ℕ) → has p (reached (reach cs t m)) ≡ true → isNothing (wayTo p (ways cs t m)) ≡ false
+unfolding wayTo
+way-there cs t m p h =
+    lowest-nothing (λ w. eqb (page w) p) (ways cs t m)
+    ∙ reached-all cs t m (λ x. not (eqb x p))
+    ∙ tested (all (λ x. not (eqb x p)) (reached (reach cs t m)))
+    (λ e. clash (eqb p p) (eq-eqb p p refl) (not-true (eqb p p) (all-in (λ x. not (eqb x p)) (reached (reach cs t m)) p e h)))
+    (λ e. e)
+
+-- so the group's own way is there wherever that of the rest is
+with-own : (cs t m : List ℕ) (f : Found) → Holds (λ w. has (page w) (reached (reach cs t m)) ≡ true) f → isNone (withOwn (ways cs t m) f) ≡ isNothing f
+with-own cs t m Nothing h = refl
+with-own cs t m (Lowest w) h = by-way (Touches w) (λ v. refl) (wayTo (page w) (ways cs t m)) ∙ way-there cs t m (page w) h
 
 -- a guard that all pages pass
 guarded : (n : ℕ) (h : ℕ → Bool) (l : List ℕ) → all (λ p. ltb p n) l ≡ true → all (λ p. not (ltb p n && h p)) l ≡ all (λ p. not (h p)) l
@@ -347,7 +385,7 @@ module _ (cs os t m : List ℕ) where
   touch-none : inMemory Q (pagesOf t) ≡ true → isNone (touchReason cs os t m) ≡ disjoint (reached P) (Q .writables ++ tablePages Q)
   unfolding touchReason inMemory disjoint
   touch-none e =
-      by-way Touches (λ w. refl) (lowestWay (select (λ w. spoils w && r (page w)) (ways os t m)))
+      with-own cs t m (lowestWay (select (λ w. spoils w && r (page w)) (ways os t m))) (lowest-holds (λ w. has (page w) (reached P) ≡ true) (select (λ w. spoils w && r (page w)) (ways os t m)) met)
       ∙ lowest-nothing (λ w. spoils w && r (page w)) (ways os t m)
       ∙ spoils-all os t m r
       ∙ guarded (pagesOf t) (λ p. has p (reached P)) (Q .writables ++ tablePages Q) low-all
@@ -358,6 +396,9 @@ module _ (cs os t m : List ℕ) where
 
       r : ℕ → Bool
       r p = ltb p (pagesOf t) && has p (reached P)
+
+      met : Each (λ w. has (page w) (reached P) ≡ true) (select (λ w. spoils w && r (page w)) (ways os t m))
+      met = each-weak (λ w. Unit {0} × (spoils w && r (page w) ≡ true)) _ (select (λ w. spoils w && r (page w)) (ways os t m)) (λ w h. and-right (ltb (page w) (pagesOf t)) _ (and-right (spoils w) _ (h .1))) (each-select (λ w. Unit {0}) (λ w. spoils w && r (page w)) (ways os t m) (each-any (ways os t m)))
 
       parted : all low (tablePages Q) && all low (Q .datas ++ Q .writables) ≡ true
       parted = rw (all-append low (tablePages Q) (Q .datas ++ Q .writables)) at e

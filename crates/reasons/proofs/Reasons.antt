@@ -33,7 +33,7 @@ use Rattle.reasons.specs.declared.Reason.{Reason}
 use Rattle.reasons.specs.declared.Reason.the-variants.{NoReason, NotUser, BeyondMemory, OwnTable, Touches}
 use Rattle.reasons.specs.declared.search.Want.{Want}
 use Rattle.reasons.specs.Ways.{ways}
-use Rattle.reasons.specs.Why.{page, lowestWay, grants, spoils, byWay, fails, firstFailing, modeReason, beyondReason, tableReason, touchReason, reasonAt, whyNumber, orElse, firstAfter}
+use Rattle.reasons.specs.Why.{page, lowestWay, grants, spoils, byWay, wayTo, withOwn, fails, firstFailing, modeReason, beyondReason, tableReason, touchReason, reasonAt, whyNumber, orElse, firstAfter}
 use Rattle.reasons.specs.inner.Search.{wanted, sought, faultAt, Faults, FaultsMarked, faulty, beyondFound, tableFound, touchFound, asReason, isNone, Sides}
 use Rattle.reasons.proofs.None.{isNothing, lowest-nothing, reached-all, grants-all, spoils-all}
 use Rattle.reasons.proofs.Lists.{select-none, each-weak, all-ext}
@@ -143,7 +143,7 @@ itself l = in-all (λ p. not (not (has p l))) l (λ p h. rw h refl)
 
 -- ---- marks
 
-module _ (k : ℕ) (own other s : List ℕ) (low : ℕ) (F : Faults k own other s low) (d : k ≢ 0) where
+module _ (k : ℕ) (own other s : List ℕ) (low : ℕ) (F : Faults k own other s low) (d : k ≢ 0) (i3 : k ≢ 3) where
   abbrev want : Want
   want = record { kind = k; low = low }
 
@@ -164,8 +164,8 @@ module _ (k : ℕ) (own other s : List ℕ) (low : ℕ) (F : Faults k own other 
       (λ i. let l : p < n = ltb-true p n i in
       either (ℕ-discrete k 1)
       (λ z. sym (wanted-table want n s x h z l) ∙ ap (λ (e : Bool). (eqb (x .level) 0 && x .write) && e) (mark-is p l) ∙ rw (z, i) refl)
-      (λ z. sym (wanted-page want n s x h d z l) ∙ ap (λ (e : Bool). (not (eqb (x .level) 0) || x .write) && e) (mark-is p l) ∙ rw (ne-eqb k 1 z, i) refl))
-      (λ i. sym (wanted-out want n s x h d (ltb-false p n i)) ∙ sym (none (ap (λ (e : Bool). e && faultAt k (getD own p 0) (getD other p 0)) i))))
+      (λ z. sym (wanted-page want n s x h d i3 z l) ∙ ap (λ (e : Bool). (not (eqb (x .level) 0) || x .write) && e) (mark-is p l) ∙ rw (ne-eqb k 1 z, i) refl))
+      (λ i. sym (wanted-out want n s x h d i3 (ltb-false p n i)) ∙ sym (none (ap (λ (e : Bool). e && faultAt k (getD own p 0) (getD other p 0)) i))))
     where
       p : ℕ
       p = x .page
@@ -188,19 +188,26 @@ module _ (k : ℕ) (own other s : List ℕ) (low : ℕ) (F : Faults k own other 
   none-wanted l h = sym (ap lowestWay (select-none (λ w. faulty k (length s) own other (w .names)) l (λ w. sym (wanted-is (w .names)) ∙ out (w .names))))
     where
       out : (x : Named) → wanted want (length s) s x ≡ false
-      out x = tested (ltb (x .page) low) (λ b. sym (wanted-below want (length s) s x (ltb-true (x .page) low b))) (λ b. let g : low ≤ x .page = ltb-false (x .page) low b in sym (wanted-out want (length s) s x g d (omega arith)))
+      out x = tested (ltb (x .page) low) (λ b. sym (wanted-below want (length s) s x (ltb-true (x .page) low b))) (λ b. let g : low ≤ x .page = ltb-false (x .page) low b in sym (wanted-out want (length s) s x g d i3 (omega arith)))
 
   pub wanted-faulty : (l : List Way) → sought (wanted want (length s) s) l ≡ sought (faulty k (length s) own other) l
   unfolding sought
   wanted-faulty l = ap lowestWay (select-same (λ w. wanted want (length s) s (w .names)) (λ w. faulty k (length s) own other (w .names)) l (λ w. wanted-is (w .names)))
 
 -- the same beside a memory of n pages
-module _ (k : ℕ) (own other s : List ℕ) (low n : ℕ) (z : length s ≡ n) (F : Faults k own other s low) (d : k ≢ 0) (l : List Way) where
+module _ (k : ℕ) (own other s : List ℕ) (low n : ℕ) (z : length s ≡ n) (F : Faults k own other s low) (d : k ≢ 0) (i3 : k ≢ 3) (l : List Way) where
   pub none-faulty : n ≤ low → Nothing ≡ sought (faulty k n own other) l
-  none-faulty h = none-wanted k own other s low F d l (omega arith) ∙ ap (λ (i : ℕ). sought (faulty k i own other) l) z
+  none-faulty h = none-wanted k own other s low F d i3 l (omega arith) ∙ ap (λ (i : ℕ). sought (faulty k i own other) l) z
 
   pub find-faulty : sought (wanted (record { kind = k; low = low }) n s) l ≡ sought (faulty k n own other) l
-  find-faulty = ap (λ (i : ℕ). sought (wanted (record { kind = k; low = low }) i s) l) (sym z) ∙ wanted-faulty k own other s low F d l ∙ ap (λ (i : ℕ). sought (faulty k i own other) l) z
+  find-faulty = ap (λ (i : ℕ). sought (wanted (record { kind = k; low = low }) i s) l) (sym z) ∙ wanted-faulty k own other s low F d i3 l ∙ ap (λ (i : ℕ). sought (faulty k i own other) l) z
+
+-- the page itself
+pub itself-is : (p n : ℕ) (c : List ℕ) (l : List Way) → sought (wanted (record { kind = 3; low = p }) n c) l ≡ wayTo p l
+unfolding sought wanted wayTo
+itself-is p n c l =
+    ap lowestWay (select-same (λ w. wanted (record { kind = 3; low = p }) n c (w .names)) (λ w. eqb (page w) p) l
+    (λ w. tested (ltb (page w) p) (λ b. let h = ltb-true (page w) p b in rw b (sym (ne-eqb (page w) p (λ z. omega arith)))) (λ b. rw b refl)))
 
 module _ (cs t m : List ℕ) where
   pub beyond-is : (c : List ℕ) → sought (wanted (record { kind = 0; low = 0 }) (pagesOf t) c) (ways cs t m) ≡ beyondFound cs t m
@@ -313,14 +320,22 @@ module _ (f : Found) (w : Way) (e : f ≡ Lowest w) (n : ℕ) where
   pub reason-4 : n ≡ 4 → OwnTable Group w ≡ byWay (asReason n) f
   reason-4 z = rw (e, z) refl
 
-  pub reason-5 : n ≡ 5 → OwnTable Rest w ≡ byWay (asReason n) f
-  reason-5 z = rw (e, z) refl
-
-  pub reason-6 : n ≢ 2 → n ≢ 3 → n ≢ 4 → n ≢ 5 → Touches w ≡ byWay (asReason n) f
-  reason-6 a b c d = rw (e, ne-eqb n 2 a, ne-eqb n 3 b, ne-eqb n 4 c, ne-eqb n 5 d) refl
+  pub reason-5 : n ≢ 2 → n ≢ 3 → n ≢ 4 → OwnTable Rest w ≡ byWay (asReason n) f
+  reason-5 a b c = rw (e, ne-eqb n 2 a, ne-eqb n 3 b, ne-eqb n 4 c) refl
 
 pub reason-none : (f : Found) (n : ℕ) → f ≡ Nothing → NoReason ≡ byWay (asReason n) f
 reason-none f n e = rw e refl
+
+-- ---- two ways as a reason
+
+module _ (cs os t m : List ℕ) (f : Found) (e : f ≡ touchFound cs os t m) where
+  pub touch-nothing : f ≡ Nothing → NoReason ≡ touchReason cs os t m
+  unfolding touchReason touchFound
+  touch-nothing z = ap (withOwn (ways cs t m)) (sym z ∙ e)
+
+  pub touch-both : (w : Way) (s : Found) (r : Reason) → f ≡ Lowest w → s ≡ wayTo (page w) (ways cs t m) → r ≡ byWay (Touches w) s → r ≡ touchReason cs os t m
+  unfolding touchReason touchFound
+  touch-both w s r z q p = p ∙ ap (byWay (Touches w)) q ∙ ap (withOwn (ways cs t m)) (sym z ∙ e)
 
 -- ---- the reasons by their numbers
 
@@ -348,13 +363,12 @@ module _ (g o : ℕ) (t m own other : List ℕ) (strays astray : Bool) (S : Side
     unfolding reasonAt tableReason tableFound
     at-5 e q = q ∙ ap (byWay (asReason 5)) e ∙ ap (λ (l : List ℕ). tableReason Rest l t m) (S .others)
 
-    pub at-6 : (n : ℕ) → n ≢ 1 → n ≢ 2 → n ≢ 3 → n ≢ 4 → n ≢ 5 → f ≡ touchFound cs os t m → r ≡ byWay (asReason 6) f → r ≡ reasonAt g t m n
-    unfolding reasonAt touchReason touchFound
-    at-6 n a b c d h e q =
-        q
-        ∙ ap (byWay (asReason 6)) e
-        ∙ ap (λ (l : List ℕ). touchReason cs l t m) (S .others)
-        ∙ rw (ne-eqb n 1 a, ne-eqb n 2 b, ne-eqb n 3 c, ne-eqb n 4 d, ne-eqb n 5 h) refl
+  pub at-6 : (r : Reason) (n : ℕ) → n ≢ 1 → n ≢ 2 → n ≢ 3 → n ≢ 4 → n ≢ 5 → r ≡ touchReason cs os t m → r ≡ reasonAt g t m n
+  unfolding reasonAt
+  at-6 r n a b c d h e =
+      e
+      ∙ ap (λ (l : List ℕ). touchReason cs l t m) (S .others)
+      ∙ rw (ne-eqb n 1 a, ne-eqb n 2 b, ne-eqb n 3 c, ne-eqb n 4 d, ne-eqb n 5 h) refl
 
 pub at-1 : (g : ℕ) (t m : List ℕ) → modeReason g t ≡ reasonAt g t m 1
 unfolding reasonAt

@@ -46,17 +46,21 @@ module _ (a : Want) (n : ℕ) (c : List ℕ) (x : Named) where
     unfolding wanted
     wanted-beyond e = rw (le-ltb (x .page) (a .low) from, e) (tested (ltb (x .page) n) (λ t. rw t (lt-leb n (x .page) (ltb-true (x .page) n t))) (λ t. rw t (le-leb n (x .page) (ltb-false (x .page) n t))))
 
-    pub wanted-out : a .kind ≢ 0 → n ≤ x .page → false ≡ wanted a n c x
+    pub wanted-itself : a .kind ≡ 3 → eqb (x .page) (a .low) ≡ wanted a n c x
     unfolding wanted
-    wanted-out d h = rw (le-ltb (x .page) (a .low) from, ne-eqb (a .kind) 0 d, le-ltb (x .page) n h) refl
+    wanted-itself e = rw (le-ltb (x .page) (a .low) from, e) refl
+
+    pub wanted-out : a .kind ≢ 0 → a .kind ≢ 3 → n ≤ x .page → false ≡ wanted a n c x
+    unfolding wanted
+    wanted-out d i h = rw (le-ltb (x .page) (a .low) from, ne-eqb (a .kind) 0 d, ne-eqb (a .kind) 3 i, le-ltb (x .page) n h) refl
 
     pub wanted-table : a .kind ≡ 1 → x .page < n → (eqb (x .level) 0 && x .write) && eqb (getD c (x .page) 0) 1 ≡ wanted a n c x
     unfolding wanted
     wanted-table e h = rw (le-ltb (x .page) (a .low) from, e, lt-ltb (x .page) n h) refl
 
-    pub wanted-page : a .kind ≢ 0 → a .kind ≢ 1 → x .page < n → (not (eqb (x .level) 0) || x .write) && eqb (getD c (x .page) 0) 1 ≡ wanted a n c x
+    pub wanted-page : a .kind ≢ 0 → a .kind ≢ 3 → a .kind ≢ 1 → x .page < n → (not (eqb (x .level) 0) || x .write) && eqb (getD c (x .page) 0) 1 ≡ wanted a n c x
     unfolding wanted
-    wanted-page d e h = rw (le-ltb (x .page) (a .low) from, ne-eqb (a .kind) 0 d, ne-eqb (a .kind) 1 e, lt-ltb (x .page) n h) refl
+    wanted-page d i e h = rw (le-ltb (x .page) (a .low) from, ne-eqb (a .kind) 0 d, ne-eqb (a .kind) 3 i, ne-eqb (a .kind) 1 e, lt-ltb (x .page) n h) refl
 
 -- nothing is looked for below the page low
 pub wanted-from : (a : Want) (n : ℕ) (c : List ℕ) (x : Named) → wanted a n c x ≡ true → a .low ≤ x .page
@@ -64,7 +68,7 @@ unfolding wanted
 wanted-from a n c x = go (ltb (x .page) (a .low)) refl
   where
     rest : Bool
-    rest = if eqb (a .kind) 0 then not (ltb (x .page) n) else if ltb (x .page) n then (if eqb (a .kind) 1 then (eqb (x .level) 0 && x .write) && eqb (getD c (x .page) 0) 1 else (not (eqb (x .level) 0) || x .write) && eqb (getD c (x .page) 0) 1) else false
+    rest = if eqb (a .kind) 0 then not (ltb (x .page) n) else if eqb (a .kind) 3 then eqb (x .page) (a .low) else if ltb (x .page) n then (if eqb (a .kind) 1 then (eqb (x .level) 0 && x .write) && eqb (getD c (x .page) 0) 1 else (not (eqb (x .level) 0) || x .write) && eqb (getD c (x .page) 0) 1) else false
 
     go : (b : Bool) → ltb (x .page) (a .low) ≡ b → (if b then false else rest) ≡ true → a .low ≤ x .page
     go true e h = absurd (false≢true h)

@@ -1,12 +1,14 @@
 -- An answer in words, and its number.
 -- Assumes nothing.
-use mathlib.Core.Path.{_≡_, refl, sym, ap, _∙_}
+use mathlib.Core.Path.{_≡_, refl, sym, ap, ap₂, _∙_}
 use mathlib.Core.Bool.{true, false}
-use mathlib.Core.List.{List, [], _∷_}
+use mathlib.Core.List.{List, [], _∷_, _++_, append-nil}
 use Prim.Native.Nat.{ℕ, zero, suc, _+_, _-_, _≤_}
 use native.Mathlib.Omega.{arith}
 use lib.Dec.{eqb}
-use lib.ListN.{length, set}
+use lib.ListN.{length, set, drop, length-append, length-drop}
+use lib.Seq.{take-at, drop-at}
+use borrow.Rule.Slice.PartMut.{putMid}
 use Rattle.word.specs.Word.{flag}
 use Rattle.tables.specs.Views.{coresOf}
 use Rattle.tables.specs.Sound.{sound}
@@ -21,7 +23,8 @@ use Rattle.reasons.specs.declared.Side.{Side}
 use Rattle.reasons.specs.declared.Side.the-variants.{Group, Rest}
 use Rattle.reasons.specs.declared.Reason.{Reason}
 use Rattle.reasons.specs.declared.Reason.the-variants.{NoReason, Refused, NotUser, BeyondMemory, OwnTable, Touches}
-use Rattle.reasons.specs.Why.{page, byWay, fails, firstFailing, modeReason, beyondReason, tableReason, touchReason, reasonAt, sideNumber, whyNumber, firstAfter, whyAfter, rootNumber, recordNumber, coreWords, wayWords, whyWords, told}
+use Rattle.reasons.specs.Why.{page, byWay, wayTo, withOwn, fails, firstFailing, modeReason, beyondReason, tableReason, touchReason, reasonAt, sideNumber, whyNumber, firstAfter, whyAfter, rootNumber, recordNumber, coreWords, wayWords, firstWords, secondWords, whyWords, told}
+use Rattle.reasons.specs.Ways.{ways}
 use Rattle.reasons.specs.inner.Search.{beyondFound, tableFound, touchFound}
 
 -- nine words written one by one
@@ -51,29 +54,81 @@ core-words k l p = nine l k 0 0 0 0 0 0 0 0 p
 -- ---- what is written of each answer
 
 module _ (a : Reason) (l : List ℕ) where
-  pub write-none : a ≡ NoReason → l ≡ coreWords 0 → l ≡ whyWords a
-  unfolding whyWords
+  pub write-none : a ≡ NoReason → l ≡ coreWords 0 → l ≡ firstWords a
+  unfolding firstWords
   write-none e q = rw e q
 
-  pub write-refused : (n : ℕ) → a ≡ Refused n → l ≡ coreWords 0 → l ≡ whyWords a
-  unfolding whyWords
+  pub write-refused : (n : ℕ) → a ≡ Refused n → l ≡ coreWords 0 → l ≡ firstWords a
+  unfolding firstWords
   write-refused n e q = rw e q
 
-  pub write-core : (k : ℕ) → a ≡ NotUser k → l ≡ coreWords k → l ≡ whyWords a
-  unfolding whyWords
+  pub write-core : (k : ℕ) → a ≡ NotUser k → l ≡ coreWords k → l ≡ firstWords a
+  unfolding firstWords
   write-core k e q = rw e q
 
-  pub write-beyond : (s : Side) (w : Way) → a ≡ BeyondMemory s w → l ≡ wayWords w → l ≡ whyWords a
-  unfolding whyWords
+  pub write-beyond : (s : Side) (w : Way) → a ≡ BeyondMemory s w → l ≡ wayWords w → l ≡ firstWords a
+  unfolding firstWords
   write-beyond s w e q = rw e q
 
-  pub write-table : (s : Side) (w : Way) → a ≡ OwnTable s w → l ≡ wayWords w → l ≡ whyWords a
-  unfolding whyWords
+  pub write-table : (s : Side) (w : Way) → a ≡ OwnTable s w → l ≡ wayWords w → l ≡ firstWords a
+  unfolding firstWords
   write-table s w e q = rw e q
 
-  pub write-touch : (w : Way) → a ≡ Touches w → l ≡ wayWords w → l ≡ whyWords a
-  unfolding whyWords
-  write-touch w e q = rw e q
+  pub write-touch : (w v : Way) → a ≡ Touches w v → l ≡ wayWords w → l ≡ firstWords a
+  unfolding firstWords
+  write-touch w v e q = rw e q
+
+  -- the second way
+  pub no-second : (x : Reason) → secondWords x ≡ coreWords 0 → a ≡ x → l ≡ coreWords 0 → l ≡ secondWords a
+  no-second x z e q = q ∙ sym z ∙ ap secondWords (sym e)
+
+  pub second-touch : (w v : Way) → a ≡ Touches w v → l ≡ wayWords v → l ≡ secondWords a
+  unfolding secondWords
+  second-touch w v e q = rw e q
+
+pub second-none : secondWords NoReason ≡ coreWords 0
+unfolding secondWords
+second-none = refl
+
+pub second-refused : (n : ℕ) → secondWords (Refused n) ≡ coreWords 0
+unfolding secondWords
+second-refused n = refl
+
+pub second-core : (k : ℕ) → secondWords (NotUser k) ≡ coreWords 0
+unfolding secondWords
+second-core k = refl
+
+pub second-beyond : (s : Side) (w : Way) → secondWords (BeyondMemory s w) ≡ coreWords 0
+unfolding secondWords
+second-beyond s w = refl
+
+pub second-table : (s : Side) (w : Way) → secondWords (OwnTable s w) ≡ coreWords 0
+unfolding secondWords
+second-table s w = refl
+
+-- ---- both parts of 18 words, one after the other
+
+first-long : (a : Reason) → length (firstWords a) ≡ 9
+unfolding firstWords coreWords wayWords
+first-long NoReason = refl
+first-long (Refused n) = refl
+first-long (NotUser k) = refl
+first-long (BeyondMemory s w) = refl
+first-long (OwnTable s w) = refl
+first-long (Touches w v) = refl
+
+none-left : (n : ℕ) (l : List ℕ) → length l ≤ n → drop n l ≡ []
+none-left zero [] h = refl
+none-left zero (x ∷ l) h = absurd (omega arith)
+none-left (suc n) [] h = refl
+none-left (suc n) (x ∷ l) h = none-left n l (omega arith)
+
+pub both-written : (a : Reason) (f s w : List ℕ) → length w ≡ 18 → f ≡ firstWords a → s ≡ secondWords a → putMid 9 (length (f ++ drop 9 w) - 9) (f ++ drop 9 w) s ≡ whyWords a
+both-written a f s w h p q =
+    let l : length f ≡ 9 = ap length p ∙ first-long a in
+    let e : drop 9 (f ++ drop 9 w) ≡ drop 9 w = drop-at f (drop 9 w) 9 l in
+    ap₂ _++_ (take-at f (drop 9 w) 9 l ∙ p)
+    (ap₂ _++_ q (ap (drop (length (f ++ drop 9 w) - 9)) e ∙ none-left (length (f ++ drop 9 w) - 9) (drop 9 w) (omega (arith, length-append f (drop 9 w), length-drop 9 w))) ∙ append-nil (secondWords a))
 
 -- ---- no reason has a number above 6
 
@@ -83,6 +138,10 @@ Small a = whyNumber a ≤ 6
 by-small : (f : Way → Reason) → ((w : Way) → Small (f w)) → (x : Found) → Small (byWay f x)
 by-small f h Nothing = omega arith
 by-small f h (Lowest w) = h w
+
+own-small : (l : List Way) (f : Found) → Small (withOwn l f)
+own-small l Nothing = omega arith
+own-small l (Lowest w) = by-small (Touches w) (λ v. omega arith) (wayTo (page w) l)
 
 mode-small : (g : ℕ) (t l : List ℕ) → Small (firstFailing g t l)
 unfolding firstFailing
@@ -97,7 +156,7 @@ reason-small g t m n =
     (λ _. if-both Small (eqb n 3) _ _ (λ _. by-small (BeyondMemory Rest) (λ w. omega arith) (beyondFound os t m))
     (λ _. if-both Small (eqb n 4) _ _ (λ _. by-small (OwnTable Group) (λ w. omega arith) (tableFound cs t m))
     (λ _. if-both Small (eqb n 5) _ _ (λ _. by-small (OwnTable Rest) (λ w. omega arith) (tableFound os t m))
-    (λ _. by-small Touches (λ w. omega arith) (touchFound cs os t m))))))
+    (λ _. own-small (ways cs t m) (touchFound cs os t m))))))
   where
     cs : List ℕ
     cs = members g (coresOf t)
@@ -118,11 +177,11 @@ module _ (a g : ℕ) (t m o : List ℕ) where
   tells-4 s = rw s refl
 
   module _ (s : sound t (length m) ≡ true) where
-    pub tells-12 : eqb (length o) 9 ≡ false → told a g t m o ≡ record { number = 112; words = o }
+    pub tells-12 : eqb (length o) 18 ≡ false → told a g t m o ≡ record { number = 112; words = o }
     unfolding told
     tells-12 l = rw (s, l) refl
 
-    pub tells-13 : eqb (length o) 9 ≡ true → isGroup g (coresOf t) ≡ false → told a g t m o ≡ record { number = 113; words = o }
+    pub tells-13 : eqb (length o) 18 ≡ true → isGroup g (coresOf t) ≡ false → told a g t m o ≡ record { number = 113; words = o }
     unfolding told
     tells-13 l i = rw (s, l, i) refl
 
@@ -130,7 +189,7 @@ module _ (a g : ℕ) (t m o : List ℕ) where
     unfolding whyAfter
     judged i = rw (s, i) refl
 
-    pub tells : (r : Reason) → eqb (length o) 9 ≡ true → isGroup g (coresOf t) ≡ true → r ≡ firstAfter g t m (6 - a) a → told a g t m o ≡ record { number = whyNumber r; words = whyWords r }
+    pub tells : (r : Reason) → eqb (length o) 18 ≡ true → isGroup g (coresOf t) ≡ true → r ≡ firstAfter g t m (6 - a) a → told a g t m o ≡ record { number = whyNumber r; words = whyWords r }
     unfolding told
     tells r l i e = rw (s, l, i) (ap (λ (z : Reason). record { number = whyNumber z; words = whyWords z }) (judged i ∙ sym e))
 

@@ -40,10 +40,13 @@ pub record Written (cs t m : List ℕ) (w : Way) : Type 0 where
   pub granting : grants w ≡ true
   pub is-table : has (page w) (tablePages (reach cs t m)) ≡ true
 
-pub record Met (cs os t m : List ℕ) (w : Way) : Type 0 where
+-- w of the others os, v of the cores cs
+pub record Met (cs os t m : List ℕ) (w v : Way) : Type 0 where
   pub real : Real os t m w
   pub spoiling : spoils w ≡ true
   pub is-reached : has (page w) (reached (reach cs t m)) ≡ true
+  pub own-real : Real cs t m v
+  pub same-page : page v ≡ page w
 
 -- what each answer rests on
 abbrev pub Grounded : ℕ → List ℕ → List ℕ → Reason → Type 0
@@ -52,7 +55,7 @@ Grounded g t m (Refused n) = apartOn g t m ≡ verdict.Refused n
 Grounded g t m (NotUser k) = (has k (members g (coresOf t) ++ rest g t) ≡ true) × (runsAsUser t k ≡ false)
 Grounded g t m (BeyondMemory s w) = Outside (coresIn g t s) t m w
 Grounded g t m (OwnTable s w) = Written (coresIn g t s) t m w
-Grounded g t m (Touches w) = Met (members g (coresOf t)) (rest g t) t m w
+Grounded g t m (Touches w v) = Met (members g (coresOf t)) (rest g t) t m w v
 
 -- the law of `why`
 pub record Law (g : ℕ) (t m : List ℕ) : Type 0 where

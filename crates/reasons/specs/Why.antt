@@ -1,7 +1,7 @@
 -- Why a group is not apart: the first reason in the order of 01's conditions ('Apart'), with the lowest page at fault and a way to it.
 -- Assumes nothing.
 use mathlib.Core.Bool.{Bool, _&&_, _||_, not}
-use mathlib.Core.List.{List, [], _∷_}
+use mathlib.Core.List.{List, [], _∷_, _++_}
 use Prim.Native.Nat.{ℕ, zero, suc, _+_, _-_}
 use lib.Dec.{eqb, ltb}
 use lib.ListN.{length}
@@ -50,6 +50,15 @@ abbrev pub byWay : (Way → Reason) → Found → Reason
 byWay f Nothing = NoReason
 byWay f (Lowest w) = f w
 
+-- the first way to page p
+unfoldable pub wayTo : ℕ → List Way → Found
+wayTo p l = lowestWay (select (λ w. eqb (page w) p) l)
+
+-- with the way found, of the rest, the first of the group's ways l to the same page
+abbrev pub withOwn : List Way → Found → Reason
+withOwn l Nothing = NoReason
+withOwn l (Lowest w) = byWay (Touches w) (wayTo (page w) l)
+
 -- a core of either side that is not running in user mode
 abbrev pub fails : ℕ → List ℕ → ℕ → Bool
 fails g t k = (isSet g k || runs (block t k)) && not (runsAsUser t k)
@@ -74,7 +83,7 @@ tableReason s cs t m =
 -- the group's cores and the others'
 unfoldable pub touchReason : List ℕ → List ℕ → List ℕ → List ℕ → Reason
 touchReason cs os t m =
-    byWay Touches
+    withOwn (ways cs t m)
     (lowestWay (select (λ w. spoils w && (ltb (page w) (pagesOf t) && has (page w) (reached (reach cs t m)))) (ways os t m)))
 
 -- the reasons in their order, by numbers 1 to 6
@@ -98,7 +107,7 @@ whyNumber (Refused n) = 100 + n
 whyNumber (NotUser k) = 1
 whyNumber (BeyondMemory s w) = 2 + sideNumber s
 whyNumber (OwnTable s w) = 4 + sideNumber s
-whyNumber (Touches w) = 6
+whyNumber (Touches w v) = 6
 
 abbrev pub orElse : Reason → Reason → Reason
 orElse a b = if eqb (whyNumber a) 0 then b else a
@@ -140,15 +149,27 @@ wayWords w =
 unfoldable pub coreWords : ℕ → List ℕ
 coreWords k = k ∷ (0 ∷ (0 ∷ (0 ∷ (0 ∷ (0 ∷ (0 ∷ (0 ∷ (0 ∷ []))))))))
 
-unfoldable pub whyWords : Reason → List ℕ
-whyWords NoReason = coreWords 0
-whyWords (Refused n) = coreWords 0
-whyWords (NotUser k) = coreWords k
-whyWords (BeyondMemory s w) = wayWords w
-whyWords (OwnTable s w) = wayWords w
-whyWords (Touches w) = wayWords w
+unfoldable pub firstWords : Reason → List ℕ
+firstWords NoReason = coreWords 0
+firstWords (Refused n) = coreWords 0
+firstWords (NotUser k) = coreWords k
+firstWords (BeyondMemory s w) = wayWords w
+firstWords (OwnTable s w) = wayWords w
+firstWords (Touches w v) = wayWords w
 
--- the operation: the number for the answer, and the rest of it in nine lent words; a refusal writes nothing
+-- the way of the group that reason 6 has besides; zeros elsewhere
+unfoldable pub secondWords : Reason → List ℕ
+secondWords NoReason = coreWords 0
+secondWords (Refused n) = coreWords 0
+secondWords (NotUser k) = coreWords 0
+secondWords (BeyondMemory s w) = coreWords 0
+secondWords (OwnTable s w) = coreWords 0
+secondWords (Touches w v) = wayWords v
+
+abbrev pub whyWords : Reason → List ℕ
+whyWords a = firstWords a ++ secondWords a
+
+-- the operation: the number for the answer, and the rest of it in 18 lent words; a refusal writes nothing
 pub record Told : Type 0 where
   pub number : ℕ
   pub words : List ℕ
@@ -156,6 +177,6 @@ pub record Told : Type 0 where
 unfoldable pub told : ℕ → ℕ → List ℕ → List ℕ → List ℕ → Told
 told a g t m o =
     if not (sound t (length m)) then record { number = 104; words = o }
-    else if not (eqb (length o) 9) then record { number = 112; words = o }
+    else if not (eqb (length o) 18) then record { number = 112; words = o }
     else if not (isGroup g (coresOf t)) then record { number = 113; words = o }
     else record { number = whyNumber (whyAfter a g t m); words = whyWords (whyAfter a g t m) }

@@ -2,6 +2,7 @@
 use super::Found;
 use super::Reason;
 use super::Side;
+use super::Way;
 use super::roots::find;
 use super::search::Want;
 use layout::CORES;
@@ -38,7 +39,7 @@ pub fn number(a: Reason) -> u32
         Reason::NotUser(_) => 1,
         Reason::BeyondMemory(s, _) => 2 + side_number(s),
         Reason::OwnTable(s, _) => 4 + side_number(s),
-        Reason::Touches(_) => 6,
+        Reason::Touches(_, _) => 6,
     }
 }
 
@@ -110,7 +111,7 @@ fn marked(
     group: u32,
     marks: &mut [u8],
 ) -> Found
-    requires { ⌜ (sound (now t) (length (now m)) ≡ true) × (1 ≤ kind) ⌝ }
+    requires { ⌜ (sound (now t) (length (now m)) ≡ true) × (1 ≤ kind) × (kind ≤ 2) ⌝ }
     requires { ⌜ (length (now own) ≡ pagesOf (now t)) × (length (now other) ≡ pagesOf (now t)) × (length (now marks) ≡ pagesOf (now t)) ⌝ }
     ensures { λ r. ⌜ r ≡ y.sought (y.faulty kind (pagesOf (now (t .entry))) (now (own .entry)) (now (other .entry))) (w.ways (members group (coresOf (now (t .entry)))) (now (t .entry)) (now (m .entry))) ⌝ }
 {
@@ -123,7 +124,7 @@ fn marked(
 
 // The same with marks of its own.
 fn at_fault(t: &[u32], m: &[u8], kind: u32, own: &[u8], other: &[u8], group: u32) -> Found
-    requires { ⌜ (sound (now t) (length (now m)) ≡ true) × (1 ≤ kind) ⌝ }
+    requires { ⌜ (sound (now t) (length (now m)) ≡ true) × (1 ≤ kind) × (kind ≤ 2) ⌝ }
     requires { ⌜ (length (now own) ≡ pagesOf (now t)) × (length (now other) ≡ pagesOf (now t)) ⌝ }
     ensures { λ r. ⌜ r ≡ y.sought (y.faulty kind (pagesOf (now (t .entry))) (now (own .entry)) (now (other .entry))) (w.ways (members group (coresOf (now (t .entry)))) (now (t .entry)) (now (m .entry))) ⌝ }
 {
@@ -151,7 +152,7 @@ fn touched(t: &[u32], m: &[u8], own: &[u8], other: &[u8], group: u32, others: u3
     at_fault(t, m, 2, own, other, others)
 }
 
-// A way as reason n.
+// A way as reason n, 2 to 5.
 fn as_reason(n: u32, found: Found) -> Reason
     ensures { λ r. ⌜ r ≡ x.byWay (y.asReason n) found ⌝ }
 {
@@ -167,11 +168,40 @@ fn as_reason(n: u32, found: Found) -> Reason
             if n == 4 {
                 return Reason::OwnTable(Side::Group, way);
             }
-            if n == 5 {
-                return Reason::OwnTable(Side::Rest, way);
-            }
-            Reason::Touches(way)
+            Reason::OwnTable(Side::Rest, way)
         }
+    }
+}
+
+// A way of the rest and one of the group, where there is one, as reason 6.
+fn both_ways(way: Way, found: Found) -> Reason
+    ensures { λ r. ⌜ r ≡ x.byWay (Reason.Touches way) found ⌝ }
+{
+    match found {
+        Found::Nothing => Reason::NoReason,
+        Found::Lowest(own) => Reason::Touches(way, own),
+    }
+}
+
+// The first way of a group to a page.
+fn way_to(t: &[u32], m: &[u8], map: &[u8], group: u32, page: u32) -> Found
+    requires { ⌜ sound (now t) (length (now m)) ≡ true ⌝ }
+    requires { ⌜ length (now map) ≡ pagesOf (now t) ⌝ }
+    ensures { λ r. ⌜ r ≡ x.wayTo page (w.ways (members group (coresOf (now (t .entry)))) (now (t .entry)) (now (m .entry))) ⌝ }
+{
+    find(t, m, Want { kind: 3, low: page }, map, group)
+}
+
+// Reason 6: the way of others to the lowest page of the group that they can write or use as a table, and the group's.
+fn touching(t: &[u32], m: &[u8], own: &[u8], other: &[u8], group: u32, others: u32) -> Reason
+    requires { ⌜ sound (now t) (length (now m)) ≡ true ⌝ }
+    requires { ⌜ now own ≡ mapFor (members group (coresOf (now t))) (now t) (now m) ⌝ }
+    requires { ⌜ now other ≡ mapFor (members others (coresOf (now t))) (now t) (now m) ⌝ }
+    ensures { λ r. ⌜ r ≡ x.touchReason (members group (coresOf (now (t .entry)))) (members others (coresOf (now (t .entry)))) (now (t .entry)) (now (m .entry)) ⌝ }
+{
+    match touched(t, m, own, other, group, others) {
+        Found::Nothing => Reason::NoReason,
+        Found::Lowest(way) => both_ways(way, way_to(t, m, own, group, way.names.page)),
     }
 }
 
@@ -206,7 +236,7 @@ fn reason_at(
     if n == 5 {
         return as_reason(5, own_table(t, m, other, others));
     }
-    as_reason(6, touched(t, m, own, other, group, others))
+    touching(t, m, own, other, group, others)
 }
 
 // Whether an answer is no reason.
@@ -219,7 +249,7 @@ pub fn is_none(a: Reason) -> bool
         Reason::NotUser(_) => false,
         Reason::BeyondMemory(_, _) => false,
         Reason::OwnTable(_, _) => false,
-        Reason::Touches(_) => false,
+        Reason::Touches(_, _) => false,
     }
 }
 

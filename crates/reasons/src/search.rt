@@ -14,8 +14,8 @@ ghost use Rattle.reasons.specs.Ways as w;
 ghost use Rattle.reasons.specs.Why as x;
 ghost use Rattle.reasons.specs.inner.Search as y;
 
-// What is looked for: pages from `low` on that are beyond memory (kind 0), or that the map marks, by a way that grants write (kind 1), by a way that
-// grants write or comes to a table (else).
+// What is looked for: pages from `low` on that are beyond memory (kind 0), or that the map marks, by a way that grants write
+// (kind 1), by a way that grants write or comes to a table (else); or the page `low` itself, by any way (kind 3).
 pub(crate) struct Want {
     pub kind: u32,
     pub low: u32,
@@ -33,6 +33,9 @@ fn is_wanted(want: Want, pages: u32, map: &[u8], names: Named) -> bool
     }
     if kind == 0 {
         return pages <= page;
+    }
+    if kind == 3 {
+        return page == want.low;
     }
     if page < pages {
         let at = page as usize;

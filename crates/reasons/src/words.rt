@@ -1,4 +1,4 @@
-// An answer in nine words (specs/Why.antt).
+// An answer in words, nine for each way (specs/Why.antt).
 use super::Reason;
 use super::Root;
 use super::Way;
@@ -57,10 +57,10 @@ fn put_core(words: &mut [u32], k: u32)
     words[8] = 0;
 }
 
-// Writes an answer.
+// Writes an answer, but for its second way.
 pub fn put(words: &mut [u32], a: Reason)
     requires { ⌜ length (now words) ≡ 9 ⌝ }
-    ensures { λ _. ⌜ now (words .exit) ≡ x.whyWords a ⌝ }
+    ensures { λ _. ⌜ now (words .exit) ≡ x.firstWords a ⌝ }
 {
     match a {
         Reason::NoReason => put_core(words, 0),
@@ -68,6 +68,30 @@ pub fn put(words: &mut [u32], a: Reason)
         Reason::NotUser(k) => put_core(words, k),
         Reason::BeyondMemory(_, way) => put_way(words, way),
         Reason::OwnTable(_, way) => put_way(words, way),
-        Reason::Touches(way) => put_way(words, way),
+        Reason::Touches(way, _) => put_way(words, way),
     }
+}
+
+// Writes the second way of an answer, or zeros where it has none.
+pub fn put_second(words: &mut [u32], a: Reason)
+    requires { ⌜ length (now words) ≡ 9 ⌝ }
+    ensures { λ _. ⌜ now (words .exit) ≡ x.secondWords a ⌝ }
+{
+    match a {
+        Reason::NoReason => put_core(words, 0),
+        Reason::Refused(_) => put_core(words, 0),
+        Reason::NotUser(_) => put_core(words, 0),
+        Reason::BeyondMemory(_, _) => put_core(words, 0),
+        Reason::OwnTable(_, _) => put_core(words, 0),
+        Reason::Touches(_, way) => put_way(words, way),
+    }
+}
+
+// Writes an answer with both of its ways.
+pub(crate) fn put_both(words: &mut [u32], a: Reason)
+    requires { ⌜ length (now words) ≡ 18 ⌝ }
+    ensures { λ _. ⌜ now (words .exit) ≡ x.whyWords a ⌝ }
+{
+    put(&mut words[..9], a);
+    put_second(&mut words[9..], a);
 }

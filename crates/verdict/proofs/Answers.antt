@@ -1,6 +1,6 @@
 -- Laws of the report: lines after lines, and what is said of each verdict.
 -- Assumes nothing.
-use mathlib.Core.Path.{_≡_, refl, sym, ap, _∙_, subst}
+use mathlib.Core.Path.{_≡_, refl, sym, ap, ap₂, _∙_, subst}
 use mathlib.Core.Bool.{Bool, true, false, not}
 use mathlib.Core.Logic.{_≢_}
 use mathlib.Core.List.{List, [], _++_, append-nil, append-assoc}
@@ -18,10 +18,11 @@ use Rattle.separation.specs.Apart.{rest, apart, apartOn}
 use Rattle.separation.specs.declared.Verdict.{Verdict}
 use Rattle.separation.specs.declared.Verdict.the-variants.{No, Yes, Refused}
 use Rattle.reasons.specs.declared.Reason.{Reason}
-use Rattle.reasons.specs.Why.{whyNumber, firstAfter, whyAfter, whyWords}
+use Rattle.reasons.specs.Why.{whyNumber, firstAfter, whyAfter, firstWords, secondWords}
 use Rattle.reasons.specs.inner.Search.{isNone}
 use Rattle.reasons.proofs.None.{no-reason}
 use Rattle.reasons.proofs.Telling.{judged}
+use Rattle.verdict.specs.declared.reason.Way.{Way}
 use Rattle.verdict.specs.Reasons.{wayOf, reasonText, reasonLines}
 use Rattle.verdict.specs.Wrong.{refusedText}
 use Rattle.verdict.specs.Report.{shownSides, sidesText, Reported}
@@ -46,9 +47,9 @@ module _ (g : ℕ) (t m : List ℕ) (s : sound t (length m) ≡ true) (i : isGro
     unfolding reasonLines
     no-line z = rw (after-is a r e, eq-eqb (whyNumber r) 0 (sym p ∙ z)) refl
 
-    next-line : (w : List ℕ) → w ≡ whyWords r → n ≢ 0 → reasonLines (suc d) a g t m ≡ reasonText n (wayOf w) ++ reasonLines d n g t m
+    next-line : n ≢ 0 → reasonLines (suc d) a g t m ≡ reasonText n (wayOf (firstWords r)) (wayOf (secondWords r)) ++ reasonLines d n g t m
     unfolding reasonLines
-    next-line w q z = rw (after-is a r e, ne-eqb (whyNumber r) 0 (λ u. z (p ∙ u)), p, q) refl
+    next-line z = rw (after-is a r e, ne-eqb (whyNumber r) 0 (λ u. z (p ∙ u)), p) refl
 
   module _ (k a n : ℕ) (r : Reason) (e : r ≡ firstAfter g t m (6 - a) a) (p : n ≡ whyNumber r) (h : k < 6) {whole b : List ℕ} {at u : ℕ} {c : List ℕ} (L : LinesLeft whole b at u c (reasonLines (6 - k) a g t m)) where
     left : 6 - k ≡ suc (6 - (k + 1))
@@ -57,13 +58,17 @@ module _ (g : ℕ) (t m : List ℕ) (s : sound t (length m) ≡ true) (i : isGro
     pub line-done : n ≡ 0 → Put b at whole u c
     line-done z = all-lines (ap (λ (d : ℕ). reasonLines d a g t m) left ∙ no-line (6 - (k + 1)) a n r e p z) L
 
-    pub line-more : (w : List ℕ) → w ≡ whyWords r → n ≢ 0 → {v : ℕ} {d : List ℕ} → Put c u (reasonText n (wayOf w)) v d → LinesLeft whole b at v d (reasonLines (6 - (k + 1)) n g t m)
-    line-more w q z P =
+    -- the two ways, by the words that were written
+    pub line-more : (w x : Way) (f s : List ℕ) → w ≡ wayOf f → x ≡ wayOf s → f ≡ firstWords r → s ≡ secondWords r → n ≢ 0 → {v : ℕ} {d : List ℕ} → Put c u (reasonText n w x) v d → LinesLeft whole b at v d (reasonLines (6 - (k + 1)) n g t m)
+    line-more w x f s i j o q z P =
         record {
-          text = L .text ++ reasonText n (wayOf w);
-          put = follow (L .put) P;
-          parts = append-assoc (L .text) (reasonText n (wayOf w)) (reasonLines (6 - (k + 1)) n g t m) ∙ ap (λ (x : List ℕ). L .text ++ x) (sym (ap (λ (d : ℕ). reasonLines d a g t m) left ∙ next-line (6 - (k + 1)) a n r e p w q z)) ∙ L .parts;
+          text = L .text ++ lines;
+          put = follow (L .put) (reworded (ap₂ (reasonText n) (i ∙ ap wayOf o) (j ∙ ap wayOf q)) P);
+          parts = append-assoc (L .text) lines (reasonLines (6 - (k + 1)) n g t m) ∙ ap (λ (y : List ℕ). L .text ++ y) (sym (ap (λ (d : ℕ). reasonLines d a g t m) left ∙ next-line (6 - (k + 1)) a n r e p z)) ∙ L .parts;
         }
+      where
+        lines : List ℕ
+        lines = reasonText n (wayOf (firstWords r)) (wayOf (secondWords r))
 
   pub line-last : (k a : ℕ) → 6 ≤ k → {whole b : List ℕ} {at r : ℕ} {c : List ℕ} → LinesLeft whole b at r c (reasonLines (6 - k) a g t m) → Put b at whole r c
   unfolding reasonLines

@@ -1,4 +1,4 @@
--- The line for a reason why a group is not apart.
+-- The lines for a reason why a group is not apart.
 -- Assumes nothing.
 use mathlib.Core.List.{List, [], _++_}
 use Prim.Native.Nat.{ℕ, zero, suc, _+_, _*_}
@@ -8,10 +8,10 @@ use Rattle.word.specs.Word.{if_then_else_}
 use Rattle.io.specs.Digits.{digits}
 use Rattle.text.specs.Text.{ascii, decimal}
 use Rattle.reasons.specs.Ways.{entryPlace}
-use Rattle.reasons.specs.Why.{whyNumber, whyAfter, whyWords}
+use Rattle.reasons.specs.Why.{whyNumber, whyAfter, firstWords, secondWords}
 use Rattle.verdict.specs.declared.reason.Way.{Way}
 
--- the nine words of an answer (`whyWords`)
+-- the nine words of a way in an answer (`wayWords`)
 abbrev pub wayOf : List ℕ → Way
 wayOf w =
     record {
@@ -57,9 +57,9 @@ spoilText does more w = does ++ decimal (w .page) ++ more ++ wayText w
 abbrev pub userText : Way → List ℕ
 userText w = ascii "core " ++ decimal (w .core) ++ ascii " is not running in user mode\n"
 
--- a reason by its number
-unfoldable pub reasonText : ℕ → Way → List ℕ
-reasonText n w =
+-- the line of a reason by its number
+unfoldable pub faultText : ℕ → Way → List ℕ
+faultText n w =
     if eqb n 1 then userText w
     else if eqb n 2 then spoilText (ascii "the group reaches page ") (ascii ", beyond memory: ") w
     else if eqb n 3 then spoilText (ascii "the rest reaches page ") (ascii ", beyond memory: ") w
@@ -68,9 +68,18 @@ reasonText n w =
     else if eqb (w .level) 0 then spoilText (ascii "the rest can write page ") (ascii ", which the group reaches: ") w
     else spoilText (ascii "the rest uses page ") (ascii ", which the group reaches, as a table: ") w
 
+-- reason 6 has a second line: how the group reaches the page
+abbrev pub ownText : ℕ → Way → List ℕ
+ownText n v = if eqb n 6 then spoilText (ascii "the group reaches page ") (ascii ": ") v else []
+
+unfoldable pub reasonText : ℕ → Way → Way → List ℕ
+reasonText n w v = faultText n w ++ ownText n v
+
 -- the lines of the reasons after reason a, at most d of them
 unfoldable pub reasonLines : ℕ → ℕ → ℕ → List ℕ → List ℕ → List ℕ
 reasonLines zero a g t m = []
 reasonLines (suc d) a g t m =
     if eqb (whyNumber (whyAfter a g t m)) 0 then []
-    else reasonText (whyNumber (whyAfter a g t m)) (wayOf (whyWords (whyAfter a g t m))) ++ reasonLines d (whyNumber (whyAfter a g t m)) g t m
+    else
+    reasonText (whyNumber (whyAfter a g t m)) (wayOf (firstWords (whyAfter a g t m))) (wayOf (secondWords (whyAfter a g t m)))
+    ++ reasonLines d (whyNumber (whyAfter a g t m)) g t m

@@ -18,7 +18,7 @@ ghost use Rattle.io.specs.Counts.{Counts};
 ghost use Rattle.word.specs.Bytes.{bytesAt};
 
 // What a report may take.
-const TEXT: usize = 8192;
+const TEXT: usize = 12288;
 
 // The tables of four cores, as bytes and as words.
 const TABLE_BYTES: usize = 4224;
@@ -70,8 +70,8 @@ fn take_request() -> Request {
 
 // Says that an argument names no core; a long one is shown by its first bytes.
 fn say_no_core(out: &mut [u8], i: usize) -> usize
-    requires { ⌜ 8192 ≤ length (now out) ⌝ }
-    ensures { λ r. ⌜ r ≤ 8192 ⌝ }
+    requires { ⌜ 12288 ≤ length (now out) ⌝ }
+    ensures { λ r. ⌜ r ≤ 12288 ⌝ }
 {
     let mut s = [0u8; 16];
     let n = os::arg(i, &mut s);
@@ -125,8 +125,8 @@ fn is_more() -> bool {
 
 // Reads the memory into the space lent, and reports.
 fn judge(out: &mut [u8], t: &[u32], m: &mut [u8], group: u32, cores: u32, pages: u32) -> usize
-    requires { ⌜ (8192 ≤ length (now out)) × (cores ≤ 4) × (pages ≤ 4096) × (length (now m) ≤ 16777216) ⌝ }
-    ensures { λ r. ⌜ r ≤ 8192 ⌝ }
+    requires { ⌜ (12288 ≤ length (now out)) × (cores ≤ 4) × (pages ≤ 4096) × (length (now m) ≤ 16777216) ⌝ }
+    ensures { λ r. ⌜ r ≤ 12288 ⌝ }
 {
     let tables = 128 + 1024 * (cores as u64);
     let bytes = tables + 4096 * (pages as u64);
@@ -142,16 +142,16 @@ fn judge(out: &mut [u8], t: &[u32], m: &mut [u8], group: u32, cores: u32, pages:
 
 // The same in as much of the space lent as the pages take.
 fn judge_in(out: &mut [u8], t: &[u32], m: &mut [u8], group: u32, cores: u32, pages: u32) -> usize
-    requires { ⌜ (8192 ≤ length (now out)) × (cores ≤ 4) × (pages ≤ 4096) × (4096 * pages ≤ length (now m)) ⌝ }
-    ensures { λ r. ⌜ r ≤ 8192 ⌝ }
+    requires { ⌜ (12288 ≤ length (now out)) × (cores ≤ 4) × (pages ≤ 4096) × (4096 * pages ≤ length (now m)) ⌝ }
+    ensures { λ r. ⌜ r ≤ 12288 ⌝ }
 {
     let n = PAGE_BYTES * (pages as usize);
     judge(out, t, &mut m[..n], group, cores, pages)
 }
 
 fn judge_small(out: &mut [u8], t: &[u32], group: u32, cores: u32, pages: u32) -> usize
-    requires { ⌜ (8192 ≤ length (now out)) × (cores ≤ 4) × (pages ≤ 1024) ⌝ }
-    ensures { λ r. ⌜ r ≤ 8192 ⌝ }
+    requires { ⌜ (12288 ≤ length (now out)) × (cores ≤ 4) × (pages ≤ 1024) ⌝ }
+    ensures { λ r. ⌜ r ≤ 12288 ⌝ }
 {
     let mut m = [0u8; SMALL_BYTES];
     judge_in(out, t, &mut m, group, cores, pages)
@@ -159,8 +159,8 @@ fn judge_small(out: &mut [u8], t: &[u32], group: u32, cores: u32, pages: u32) ->
 
 // The answer is never more than the text holds, so it never calls itself; but a function that might is not inlined, and no other function has its frame.
 fn judge_large(out: &mut [u8], t: &[u32], group: u32, cores: u32, pages: u32) -> usize
-    requires { ⌜ (8192 ≤ length (now out)) × (cores ≤ 4) × (pages ≤ 4096) ⌝ }
-    ensures { λ r. ⌜ r ≤ 8192 ⌝ }
+    requires { ⌜ (12288 ≤ length (now out)) × (cores ≤ 4) × (pages ≤ 4096) ⌝ }
+    ensures { λ r. ⌜ r ≤ 12288 ⌝ }
 {
     let mut m = [0u8; LARGE_BYTES];
     let r = judge_in(out, t, &mut m, group, cores, pages);
@@ -172,8 +172,8 @@ fn judge_large(out: &mut [u8], t: &[u32], group: u32, cores: u32, pages: u32) ->
 
 // Reports on a machine of so many cores and pages, whose tables are read.
 fn judge_machine(out: &mut [u8], t: &[u32], group: u32, cores: u32, pages: u32) -> usize
-    requires { ⌜ (8192 ≤ length (now out)) × (cores ≤ 4) × (pages ≤ 4096) ⌝ }
-    ensures { λ r. ⌜ r ≤ 8192 ⌝ }
+    requires { ⌜ (12288 ≤ length (now out)) × (cores ≤ 4) × (pages ≤ 4096) ⌝ }
+    ensures { λ r. ⌜ r ≤ 12288 ⌝ }
 {
     if pages <= SMALL_PAGES {
         return judge_small(out, t, group, cores, pages);
@@ -193,8 +193,8 @@ fn read_tables(
     cores: u32,
     pages: u32,
 ) -> usize
-    requires { ⌜ (8192 ≤ length (now out)) × (length (now raw) ≡ 4224) × (length (now t) ≡ 1056) × (cores ≤ 4) × (pages ≤ 4096) ⌝ }
-    ensures { λ r. ⌜ r ≤ 8192 ⌝ }
+    requires { ⌜ (12288 ≤ length (now out)) × (length (now raw) ≡ 4224) × (length (now t) ≡ 1056) × (cores ≤ 4) × (pages ≤ 4096) ⌝ }
+    ensures { λ r. ⌜ r ≤ 12288 ⌝ }
 {
     let words = HEADER_WORDS + BLOCK_WORDS * (cores as usize);
     let end = 4 * words;
@@ -209,8 +209,8 @@ fn read_tables(
 
 // Reads words 0 and 1, the numbers of cores and of pages.
 fn read_head(out: &mut [u8], raw: &mut [u8], t: &mut [u32], group: u32) -> usize
-    requires { ⌜ (8192 ≤ length (now out)) × (length (now raw) ≡ 4224) × (length (now t) ≡ 1056) ⌝ }
-    ensures { λ r. ⌜ r ≤ 8192 ⌝ }
+    requires { ⌜ (12288 ≤ length (now out)) × (length (now raw) ≡ 4224) × (length (now t) ≡ 1056) ⌝ }
+    ensures { λ r. ⌜ r ≤ 12288 ⌝ }
 {
     let n = io::read_full(STDIN_FILENO, &mut raw[..8]);
     if n < 8 {
@@ -235,8 +235,8 @@ fn read_head(out: &mut [u8], raw: &mut [u8], t: &mut [u32], group: u32) -> usize
 
 // Reads a machine and reports on a group.
 fn read_machine(out: &mut [u8], group: u32) -> usize
-    requires { ⌜ 8192 ≤ length (now out) ⌝ }
-    ensures { λ r. ⌜ r ≤ 8192 ⌝ }
+    requires { ⌜ 12288 ≤ length (now out) ⌝ }
+    ensures { λ r. ⌜ r ≤ 12288 ⌝ }
 {
     let mut raw = [0u8; TABLE_BYTES];
     let mut t = [0u32; TABLE_WORDS];
@@ -245,7 +245,7 @@ fn read_machine(out: &mut [u8], group: u32) -> usize
 
 // Puts all that the program has to say, and answers how much it is.
 fn answer(out: &mut [u8]) -> usize
-    requires { ⌜ 8192 ≤ length (now out) ⌝ }
+    requires { ⌜ 12288 ≤ length (now out) ⌝ }
     ensures { λ r. ⌜ Counts r (now (out .exit)) ⌝ }
 {
     let a = take_request();

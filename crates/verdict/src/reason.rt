@@ -1,4 +1,4 @@
-// The line for a reason (specs/Reasons.antt).
+// The lines for a reason (specs/Reasons.antt).
 use text::put;
 use text::put_hex;
 use text::put_number;
@@ -137,9 +137,9 @@ fn put_user(out: &mut [u8], at: usize, w: Way) -> usize
 }
 
 // The line of reason n: at most 228 bytes.
-pub fn put_reason(out: &mut [u8], at: usize, n: u32, w: Way) -> usize
+fn put_fault(out: &mut [u8], at: usize, n: u32, w: Way) -> usize
     requires { ⌜ at + 270 ≤ length (now out) ⌝ }
-    ensures { λ r. ⌜ Put (now (out .entry)) at (x.reasonText n w) r (now (out .exit)) × (r ≤ at + 228) ⌝ }
+    ensures { λ r. ⌜ Put (now (out .entry)) at (x.faultText n w) r (now (out .exit)) × (r ≤ at + 228) ⌝ }
 {
     if n == 1 {
         return put_user(out, at, w);
@@ -178,4 +178,24 @@ pub fn put_reason(out: &mut [u8], at: usize, n: u32, w: Way) -> usize
         b", which the group reaches, as a table: ",
         w,
     )
+}
+
+// The second line of reason 6: at most 228 bytes.
+fn put_own(out: &mut [u8], at: usize, n: u32, v: Way) -> usize
+    requires { ⌜ at + 270 ≤ length (now out) ⌝ }
+    ensures { λ r. ⌜ Put (now (out .entry)) at (x.ownText n v) r (now (out .exit)) × (r ≤ at + 228) ⌝ }
+{
+    if n == 6 {
+        return put_spoil(out, at, b"the group reaches page ", b": ", v);
+    }
+    at
+}
+
+// All of reason n, with both of its ways: at most 456 bytes.
+pub fn put_reason(out: &mut [u8], at: usize, n: u32, w: Way, v: Way) -> usize
+    requires { ⌜ at + 498 ≤ length (now out) ⌝ }
+    ensures { λ r. ⌜ Put (now (out .entry)) at (x.reasonText n w v) r (now (out .exit)) × (r ≤ at + 456) ⌝ }
+{
+    let p = put_fault(out, at, n, w);
+    put_own(out, p, n, v)
 }

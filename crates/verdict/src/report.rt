@@ -39,7 +39,7 @@ fn put_sides(
     crate::lines::put_legend(out, s)
 }
 
-// A line for each reason, of which there are at most six.
+// The lines of each reason, of which there are at most six.
 fn put_reasons(
     out: &mut [u8],
     at: usize,
@@ -52,11 +52,12 @@ fn put_reasons(
     strays: bool,
     astray: bool,
 ) -> usize
-    requires { ⌜ (sound (now t) (length (now m)) ≡ true) × (isGroup group (coresOf (now t)) ≡ true) × (at + 1410 ≤ length (now out)) ⌝ }
+    requires { ⌜ (sound (now t) (length (now m)) ≡ true) × (isGroup group (coresOf (now t)) ≡ true) × (at + 2800 ≤ length (now out)) ⌝ }
     requires { ⌜ Sides group others (now t) (now m) (now own) (now other) strays astray ⌝ }
-    ensures { λ r. ⌜ Put (now (out .entry)) at (reasonLines 6 0 group (now (t .entry)) (now (m .entry))) r (now (out .exit)) × (r ≤ at + 1368) ⌝ }
+    ensures { λ r. ⌜ Put (now (out .entry)) at (reasonLines 6 0 group (now (t .entry)) (now (m .entry))) r (now (out .exit)) × (r ≤ at + 2736) ⌝ }
 {
-    let mut words = [0u32; 9];
+    let mut first = [0u32; 9];
+    let mut second = [0u32; 9];
     let mut after: u32 = 0;
     let mut p = at;
     let mut i: usize = 0;
@@ -66,8 +67,11 @@ fn put_reasons(
         if after == 0 {
             return p;
         }
-        reasons::words::put(&mut words, r);
-        p = crate::reason::put_reason(out, p, after, crate::reason::way_of(&words));
+        reasons::words::put(&mut first, r);
+        reasons::words::put_second(&mut second, r);
+        let fault = crate::reason::way_of(&first);
+        let reached = crate::reason::way_of(&second);
+        p = crate::reason::put_reason(out, p, after, fault, reached);
         i += 1;
     }
     p
@@ -85,9 +89,9 @@ fn put_all(
     strays: bool,
     astray: bool,
 ) -> usize
-    requires { ⌜ (sound (now t) (length (now m)) ≡ true) × (isGroup group (coresOf (now t)) ≡ true) × (8192 ≤ length (now out)) ⌝ }
+    requires { ⌜ (sound (now t) (length (now m)) ≡ true) × (isGroup group (coresOf (now t)) ≡ true) × (12288 ≤ length (now out)) ⌝ }
     requires { ⌜ Sides group others (now t) (now m) (now own) (now other) strays astray ⌝ }
-    ensures { λ r. ⌜ x.Reported (apartOn group (now (t .entry)) (now (m .entry))) (now (out .entry)) group (now (t .entry)) (now (m .entry)) r (now (out .exit)) × (r ≤ 8192) ⌝ }
+    ensures { λ r. ⌜ x.Reported (apartOn group (now (t .entry)) (now (m .entry))) (now (out .entry)) group (now (t .entry)) (now (m .entry)) r (now (out .exit)) × (r ≤ 12288) ⌝ }
 {
     let p = put_sides(out, t, m, group, others, own, other);
     let r = reasons::judge::first_after(t, m, group, others, own, other, strays, astray, 0);
@@ -107,9 +111,9 @@ fn put_with_maps(
     own: &mut [u8],
     other: &mut [u8],
 ) -> usize
-    requires { ⌜ (sound (now t) (length (now m)) ≡ true) × (isGroup group (coresOf (now t)) ≡ true) × (8192 ≤ length (now out)) ⌝ }
+    requires { ⌜ (sound (now t) (length (now m)) ≡ true) × (isGroup group (coresOf (now t)) ≡ true) × (12288 ≤ length (now out)) ⌝ }
     requires { ⌜ (length (now own) ≡ pagesOf (now t)) × (length (now other) ≡ pagesOf (now t)) ⌝ }
-    ensures { λ r. ⌜ x.Reported (apartOn group (now (t .entry)) (now (m .entry))) (now (out .entry)) group (now (t .entry)) (now (m .entry)) r (now (out .exit)) × (r ≤ 8192) ⌝ }
+    ensures { λ r. ⌜ x.Reported (apartOn group (now (t .entry)) (now (m .entry))) (now (out .entry)) group (now (t .entry)) (now (m .entry)) r (now (out .exit)) × (r ≤ 12288) ⌝ }
 {
     let others = separation::sides::rest(t, group);
     let strays = reach::fill(t, m, group, own);
@@ -119,8 +123,8 @@ fn put_with_maps(
 
 // The same with maps of its own.
 fn put_judged(out: &mut [u8], t: &[u32], m: &[u8], group: u32) -> usize
-    requires { ⌜ (sound (now t) (length (now m)) ≡ true) × (isGroup group (coresOf (now t)) ≡ true) × (8192 ≤ length (now out)) ⌝ }
-    ensures { λ r. ⌜ x.Reported (apartOn group (now (t .entry)) (now (m .entry))) (now (out .entry)) group (now (t .entry)) (now (m .entry)) r (now (out .exit)) × (r ≤ 8192) ⌝ }
+    requires { ⌜ (sound (now t) (length (now m)) ≡ true) × (isGroup group (coresOf (now t)) ≡ true) × (12288 ≤ length (now out)) ⌝ }
+    ensures { λ r. ⌜ x.Reported (apartOn group (now (t .entry)) (now (m .entry))) (now (out .entry)) group (now (t .entry)) (now (m .entry)) r (now (out .exit)) × (r ≤ 12288) ⌝ }
 {
     let n = t[PAGES] as usize;
     let mut own = [0u8; MOST_PAGES];
@@ -130,8 +134,8 @@ fn put_judged(out: &mut [u8], t: &[u32], m: &[u8], group: u32) -> usize
 
 // The verdict, and what leads to it; or a refusal.
 pub fn put_report(out: &mut [u8], t: &[u32], m: &[u8], group: u32) -> usize
-    requires { ⌜ 8192 ≤ length (now out) ⌝ }
-    ensures { λ r. ⌜ x.Reported (apartOn group (now (t .entry)) (now (m .entry))) (now (out .entry)) group (now (t .entry)) (now (m .entry)) r (now (out .exit)) × (r ≤ 8192) ⌝ }
+    requires { ⌜ 12288 ≤ length (now out) ⌝ }
+    ensures { λ r. ⌜ x.Reported (apartOn group (now (t .entry)) (now (m .entry))) (now (out .entry)) group (now (t .entry)) (now (m .entry)) r (now (out .exit)) × (r ≤ 12288) ⌝ }
 {
     if !tables::sound(t, m.len()) {
         return crate::wrong::put_refused(out, 4);

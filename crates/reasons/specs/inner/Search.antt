@@ -24,16 +24,18 @@ use Rattle.reasons.specs.declared.Found.{Found}
 use Rattle.reasons.specs.declared.Found.the-variants.{Nothing, Lowest}
 use Rattle.reasons.specs.declared.Side.the-variants.{Group, Rest}
 use Rattle.reasons.specs.declared.Reason.{Reason}
-use Rattle.reasons.specs.declared.Reason.the-variants.{BeyondMemory, OwnTable, Touches}
+use Rattle.reasons.specs.declared.Reason.the-variants.{BeyondMemory, OwnTable}
 use Rattle.reasons.specs.Ways.{naming, roots, entryNamed, nextNamed, rootWay, further, onward, allFrom, coreWays, ways}
 use Rattle.reasons.specs.Why.{page, lower, lowestWay, grants, spoils, whyNumber}
 
 -- What is looked for beside a memory of n pages and marks c of pages: from page low on, with kind 0 a page beyond memory, with kind 1 a page that is
--- marked, by a way that grants write, else a page that is marked, by a way that grants write or comes to a table.
+-- marked, by a way that grants write, with kind 3 page low itself, else a page that is marked, by a way that grants write
+-- or comes to a table.
 unfoldable pub wanted : Want → ℕ → List ℕ → Named → Bool
 wanted a n c x =
     if ltb (x .page) (a .low) then false
     else if eqb (a .kind) 0 then not (ltb (x .page) n)
+    else if eqb (a .kind) 3 then eqb (x .page) (a .low)
     else if ltb (x .page) n then
     (if eqb (a .kind) 1 then (eqb (x .level) 0 && x .write) && eqb (getD c (x .page) 0) 1
     else (not (eqb (x .level) 0) || x .write) && eqb (getD c (x .page) 0) 1)
@@ -123,14 +125,13 @@ tableFound cs t m = lowestWay (select (λ w. grants w && (ltb (page w) (pagesOf 
 unfoldable pub touchFound : List ℕ → List ℕ → List ℕ → List ℕ → Found
 touchFound cs os t m = lowestWay (select (λ w. spoils w && (ltb (page w) (pagesOf t) && has (page w) (reached (reach cs t m)))) (ways os t m))
 
--- a way as reason n, from 2 on
+-- a way as reason n, 2 to 5
 abbrev pub asReason : ℕ → Way → Reason
 asReason n w =
     if eqb n 2 then BeyondMemory Group w
     else if eqb n 3 then BeyondMemory Rest w
     else if eqb n 4 then OwnTable Group w
-    else if eqb n 5 then OwnTable Rest w
-    else Touches w
+    else OwnTable Rest w
 
 -- no reason
 abbrev pub isNone : Reason → Bool

@@ -22,7 +22,7 @@ same-length : tie.Need-same-length
 same-length c = search needs
 
 returns : tie.Need-returns
-returns c = let e = c .before .before .before .before .before .before .before .before .before .before .before in none-faulty (c .before .before .before .before .before .before .before .before .before .before .before .args .kind) (now (c .before .before .before .before .before .before .before .before .before .before .before .args .own)) (now (c .before .before .before .before .before .before .before .before .before .before .before .args .other)) _ _ (pagesOf (now (e .args .t))) (c .before .before .before .before .mark-faults .ensures .long ∙ c .before .before .before .before .before .before .before .before .before .before .before .pre .1 .2) (c .before .before .before .before .mark-faults .ensures .faults) (λ z. omega (arith, e .pre .0 .1)) (ways (members (c .before .before .before .before .before .before .before .before .before .before .before .args .group) (coresOf (now (c .before .before .before .before .before .before .before .before .before .before .before .args .t)))) (now (c .before .before .before .before .before .before .before .before .before .before .before .args .t)) (now (c .before .before .before .before .before .before .before .before .before .before .before .args .m))) (c .if1 .taken)
+returns c = let e = c .before .before .before .before .before .before .before .before .before .before .before in none-faulty (c .before .before .before .before .before .before .before .before .before .before .before .args .kind) (now (c .before .before .before .before .before .before .before .before .before .before .before .args .own)) (now (c .before .before .before .before .before .before .before .before .before .before .before .args .other)) _ _ (pagesOf (now (e .args .t))) (c .before .before .before .before .mark-faults .ensures .long ∙ c .before .before .before .before .before .before .before .before .before .before .before .pre .1 .2) (c .before .before .before .before .mark-faults .ensures .faults) (λ z. omega (arith, e .pre .0 .1)) (λ z. omega (arith, e .pre .0 .2)) (ways (members (c .before .before .before .before .before .before .before .before .before .before .before .args .group) (coresOf (now (c .before .before .before .before .before .before .before .before .before .before .before .args .t)))) (now (c .before .before .before .before .before .before .before .before .before .before .before .args .t)) (now (c .before .before .before .before .before .before .before .before .before .before .before .args .m))) (c .if1 .taken)
 
 find-requires : tie.Need-find-requires
 find-requires c κs = let e = c .before .before .before .before .before .before .before .before .before .before .before .before in (e .pre .0 .0, c .before .before .before .before .before .mark-faults .ensures .long ∙ c .before .before .before .before .before .before .before .before .before .before .before .before .pre .1 .2)
@@ -31,7 +31,7 @@ same-length-2 : tie.Need-same-length-2
 same-length-2 c = search needs
 
 returns-2 : tie.Need-returns-2
-returns-2 c = let e = c .before .before .before .before .before .before .before .before .before .before .before .before .before in c .find .ensures ∙ find-faulty (c .before .before .before .before .before .before .before .before .before .before .before .before .before .args .kind) (now (c .before .before .before .before .before .before .before .before .before .before .before .before .before .args .own)) (now (c .before .before .before .before .before .before .before .before .before .before .before .before .before .args .other)) _ _ (pagesOf (now (e .args .t))) (c .before .before .before .before .before .before .mark-faults .ensures .long ∙ c .before .before .before .before .before .before .before .before .before .before .before .before .before .pre .1 .2) (c .before .before .before .before .before .before .mark-faults .ensures .faults) (λ z. omega (arith, e .pre .0 .1)) (ways (members (c .before .before .before .before .before .before .before .before .before .before .before .before .before .args .group) (coresOf (now (c .before .before .before .before .before .before .before .before .before .before .before .before .before .args .t)))) (now (c .before .before .before .before .before .before .before .before .before .before .before .before .before .args .t)) (now (c .before .before .before .before .before .before .before .before .before .before .before .before .before .args .m)))
+returns-2 c = let e = c .before .before .before .before .before .before .before .before .before .before .before .before .before in c .find .ensures ∙ find-faulty (c .before .before .before .before .before .before .before .before .before .before .before .before .before .args .kind) (now (c .before .before .before .before .before .before .before .before .before .before .before .before .before .args .own)) (now (c .before .before .before .before .before .before .before .before .before .before .before .before .before .args .other)) _ _ (pagesOf (now (e .args .t))) (c .before .before .before .before .before .before .mark-faults .ensures .long ∙ c .before .before .before .before .before .before .before .before .before .before .before .before .before .pre .1 .2) (c .before .before .before .before .before .before .mark-faults .ensures .faults) (λ z. omega (arith, e .pre .0 .1)) (λ z. omega (arith, e .pre .0 .2)) (ways (members (c .before .before .before .before .before .before .before .before .before .before .before .before .before .args .group) (coresOf (now (c .before .before .before .before .before .before .before .before .before .before .before .before .before .args .t)))) (now (c .before .before .before .before .before .before .before .before .before .before .before .before .before .args .t)) (now (c .before .before .before .before .before .before .before .before .before .before .before .before .before .args .m)))
 
 pub marked-spec : {M : Type 1} → statement M
 marked-spec =

@@ -11,7 +11,7 @@ use Rattle.reasons.proofs.judge.own_table.Statement.{statement}
 use Rattle.reasons.proofs.judge.own_table.Tie as tie
 
 at-fault-requires : tie.Need-at-fault-requires
-at-fault-requires c κs = let e = c .before .before .before in let l = ap length (e .pre .1) ∙ map-size (members (c .before .before .before .args .group) (coresOf (now (c .before .before .before .args .t)))) (now (e .args .t)) (now (e .args .m)) in ((e .pre .0, omega arith), (l, l))
+at-fault-requires c κs = let e = c .before .before .before in let l = ap length (e .pre .1) ∙ map-size (members (c .before .before .before .args .group) (coresOf (now (c .before .before .before .args .t)))) (now (e .args .t)) (now (e .args .m)) in ((e .pre .0, omega arith, omega arith), (l, l))
 
 returns : tie.Need-returns
 returns c = let e = c .before .before .before .before in c .at-fault .ensures ∙ table-is (members (c .before .before .before .before .args .group) (coresOf (now (c .before .before .before .before .args .t)))) (now (e .args .t)) (now (e .args .m)) (now (e .args .map)) (e .pre .1)

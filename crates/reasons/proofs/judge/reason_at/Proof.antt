@@ -55,14 +55,11 @@ as-reason-requires-4 c κs = search needs
 returns-5 : tie.Need-returns-5
 returns-5 c = let a = c .before .before .before .before .before .before .before .before .before .before .before .args in at-5 (c .before .before .before .before .before .before .before .before .before .before .before .args .group) (c .before .before .before .before .before .before .before .before .before .before .before .args .others) (now (c .before .before .before .before .before .before .before .before .before .before .before .args .t)) (now (c .before .before .before .before .before .before .before .before .before .before .before .args .m)) _ _ _ _ (c .before .before .before .before .before .before .before .before .before .before .before .pre .1) _ _ (c .before .own-table2 .ensures) (c .as-reason4 .ensures) ∙ ap (reasonAt (a .group) (now (a .t)) (now (a .m))) (sym (c .before .before .if5 .taken))
 
-touched-requires : tie.Need-touched-requires
-touched-requires c κs = let e = c .before .before .before .before .before .before .before .before .before in (e .pre .0, (e .pre .1 .own-map, e .pre .1 .other-map))
-
-as-reason-requires-5 : tie.Need-as-reason-requires-5
-as-reason-requires-5 c κs = search needs
+touching-requires : tie.Need-touching-requires
+touching-requires c κs = let e = c .before .before .before .before .before .before .before .before .before in (e .pre .0, (e .pre .1 .own-map, e .pre .1 .other-map))
 
 returns-6 : tie.Need-returns-6
-returns-6 c = at-6 (c .before .before .before .before .before .before .before .before .before .before .before .args .group) (c .before .before .before .before .before .before .before .before .before .before .before .args .others) (now (c .before .before .before .before .before .before .before .before .before .before .before .args .t)) (now (c .before .before .before .before .before .before .before .before .before .before .before .args .m)) _ _ _ _ (c .before .before .before .before .before .before .before .before .before .before .before .pre .1) _ _ (c .before .before .before .before .before .before .before .before .before .before .before .args .n) (c .before .before .before .before .before .before .if1 .left) (c .before .before .before .before .before .if2 .left) (c .before .before .before .before .if3 .left) (c .before .before .before .if4 .left) (c .before .before .if5 .left) (c .before .touched .ensures) (c .as-reason5 .ensures)
+returns-6 c = at-6 (c .before .before .before .before .before .before .before .before .before .before .args .group) (c .before .before .before .before .before .before .before .before .before .before .args .others) (now (c .before .before .before .before .before .before .before .before .before .before .args .t)) (now (c .before .before .before .before .before .before .before .before .before .before .args .m)) _ _ _ _ (c .before .before .before .before .before .before .before .before .before .before .pre .1) _ (c .before .before .before .before .before .before .before .before .before .before .args .n) (c .before .before .before .before .before .if1 .left) (c .before .before .before .before .if2 .left) (c .before .before .before .if3 .left) (c .before .before .if4 .left) (c .before .if5 .left) (c .touching .ensures)
 
 pub reason-at-spec : {M : Type 1} → statement M
 reason-at-spec =
@@ -82,6 +79,5 @@ reason-at-spec =
     own-table-requires-2
     as-reason-requires-4
     returns-5
-    touched-requires
-    as-reason-requires-5
+    touching-requires
     returns-6)

@@ -75,7 +75,7 @@ same-length-6 : tie.Need-same-length-6
 same-length-6 c = search needs
 
 returns-6 : tie.Need-returns-6
-returns-6 c = write-touch _ _ _ (c .before .before .before .before .before .a4 .given .1) (c .before .before .put-way3 .ensures)
+returns-6 c = write-touch _ _ _ _ (c .before .before .before .before .before .a4 .given .1) (c .before .before .put-way3 .ensures)
 
 pub put-spec : {M : Type 1} → statement M
 put-spec =
