@@ -32,6 +32,9 @@ REASONS = [
     r"the rest can write its own table page [0-9]+: " + WAY,
     r"the rest (can write page [0-9]+, which the group reaches|uses page [0-9]+, which the group reaches, as a table): " + WAY,
 ]
+# the second line of the last reason, about the same page
+TOUCHES = len(REASONS) - 1
+OWN = r"the group reaches page [0-9]+: " + WAY
 LEGEND = 3
 
 
@@ -59,6 +62,13 @@ def what_is_wrong(out, pages):
     reasons = lines[2 + rows + LEGEND : -1]
     if lines[-1] == "apart" and (reasons or "!" in marks):
         return "apart, with a reason or a mark that spoils it"
+    if reasons and re.fullmatch(OWN, reasons[-1]):
+        own = reasons.pop()
+        page = re.search(r"page [0-9]+", own).group()
+        if not reasons or not re.fullmatch(REASONS[TOUCHES], reasons[-1]) or page + "," not in reasons[-1]:
+            return "a second line without its reason"
+    elif reasons and re.fullmatch(REASONS[TOUCHES], reasons[-1]):
+        return "the last reason without its second line"
     if lines[-1] == "not apart" and not 1 <= len(reasons) <= 6:
         return "not apart, with %d reasons" % len(reasons)
     numbers = [n for line in reasons for n, form in enumerate(REASONS) if re.fullmatch(form, line)]

@@ -18,18 +18,18 @@ use Rattle.reach.specs.Reach.{isGroup, members, reach, tablePages, reached}
 use Rattle.reach.proofs.Lists.{In, in-here, in-there, in-left, in-right, in-range, range-in, in-select, Each, if-both}
 use Rattle.separation.specs.declared.Verdict.the-variants as verdict
 use Rattle.separation.specs.Apart.{runningCores, rest, runsAsUser, apart, apartOn}
-use Rattle.reasons.specs.declared.Way.{Way}
-use Rattle.reasons.specs.declared.Found.{Found}
-use Rattle.reasons.specs.declared.Found.the-variants.{Nothing, Lowest}
+use Rattle.ways.specs.declared.Way.{Way}
+use Rattle.ways.specs.declared.Found.{Found}
+use Rattle.ways.specs.declared.Found.the-variants.{Nothing, Lowest}
 use Rattle.reasons.specs.declared.Side.the-variants.{Group, Rest}
 use Rattle.reasons.specs.declared.Reason.{Reason}
 use Rattle.reasons.specs.declared.Reason.the-variants.{NoReason, Refused, NotUser, BeyondMemory, OwnTable, Touches}
-use Rattle.reasons.specs.Ways.{ways}
-use Rattle.reasons.specs.Why.{page, lower, lowestWay, grants, spoils, byWay, wayTo, withOwn, fails, firstFailing, modeReason, beyondReason, tableReason, touchReason, reasonAt, sideNumber, whyNumber, firstAfter, whyAfter}
-use Rattle.reasons.specs.inner.Search.{isNone}
-use Rattle.reasons.specs.Grounds.{Real, Outside, Written, Met, Grounded, Law}
-use Rattle.reasons.proofs.Lists.{each-weak, each-select}
-use Rattle.reasons.proofs.Real.{ways-real}
+use Rattle.ways.specs.Ways.{ways, page, lower, lowestWay, Real}
+use Rattle.reasons.specs.Why.{grants, spoils, byWay, wayTo, withOwn, fails, firstFailing, modeReason, beyondReason, tableReason, touchReason, reasonAt, sideNumber, whyNumber, firstAfter, whyAfter}
+use Rattle.reasons.specs.inner.Judging.{isNone}
+use Rattle.reasons.specs.Grounds.{Outside, Written, Met, Grounded, Law}
+use Rattle.ways.proofs.Lists.{each-weak, each-select}
+use Rattle.ways.proofs.Real.{ways-real}
 use Rattle.reasons.proofs.None.{Holds, lowest-holds, no-reason}
 
 none-is : (x : Reason) → isNone x ≡ true → x ≡ NoReason

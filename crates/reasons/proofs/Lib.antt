@@ -1,9 +1,4 @@
-pub mod Lists
-pub mod Pages
-pub mod Real
 pub mod None
 pub mod Law
-pub mod Searches
-pub mod Blocks
 pub mod Reasons
 pub mod Telling

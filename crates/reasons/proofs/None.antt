@@ -20,19 +20,19 @@ use Rattle.reach.specs.Reach.{Pages, members, grantsWrite, reach, tablePages, r
 use Rattle.reach.proofs.Lists.{Each, each-append, each-flatMap, all-append, all-in, in-all, disjoint-in, both-ways, flatMap-ext, flatMap-append, flatMap-map}
 use Rattle.separation.specs.Apart.{rest, runsAsUser, disjoint, closed, pagesApart, apart}
 use Rattle.separation.proofs.Deciding.{users-are}
-use Rattle.reasons.specs.declared.Named.{Named}
-use Rattle.reasons.specs.declared.Way.{Way}
-use Rattle.reasons.specs.declared.Found.{Found}
-use Rattle.reasons.specs.declared.Found.the-variants.{Nothing, Lowest}
+use Rattle.ways.specs.declared.Named.{Named}
+use Rattle.ways.specs.declared.Way.{Way}
+use Rattle.ways.specs.declared.Found.{Found}
+use Rattle.ways.specs.declared.Found.the-variants.{Nothing, Lowest}
 use Rattle.reasons.specs.declared.Side.{Side}
 use Rattle.reasons.specs.declared.Side.the-variants.{Group, Rest}
 use Rattle.reasons.specs.declared.Reason.{Reason}
 use Rattle.reasons.specs.declared.Reason.the-variants.{NoReason, NotUser, BeyondMemory, OwnTable, Touches}
-use Rattle.reasons.specs.Ways.{naming, roots, rootWay, entryNamed, nextNamed, further, nextWays, onward, allFrom, coreWays, ways}
-use Rattle.reasons.specs.Why.{page, lower, lowestWay, grants, spoils, byWay, wayTo, withOwn, fails, firstFailing, modeReason, beyondReason, tableReason, touchReason, reasonAt, sideNumber, orElse, firstAfter}
-use Rattle.reasons.specs.inner.Search.{isNone}
-use Rattle.reasons.proofs.Lists.{flat-flat, each-map, each-weak, each-select, each-through, all-map, all-ext, all-flatMap, all-both, all-selected}
-use Rattle.reasons.proofs.Pages.{rootWays, atLevel, firstWays, secondWays, dataWays, writeWays, first-pages, second-pages, data-pages, writable-pages}
+use Rattle.ways.specs.Ways.{naming, roots, rootWay, entryNamed, nextNamed, further, nextWays, onward, allFrom, coreWays, ways, page, lower, lowestWay}
+use Rattle.reasons.specs.Why.{grants, spoils, byWay, wayTo, withOwn, fails, firstFailing, modeReason, beyondReason, tableReason, touchReason, reasonAt, sideNumber, orElse, firstAfter}
+use Rattle.reasons.specs.inner.Judging.{isNone}
+use Rattle.ways.proofs.Lists.{flat-flat, each-map, each-weak, each-select, each-through, all-map, all-ext, all-flatMap, all-both, all-selected}
+use Rattle.ways.proofs.Pages.{rootWays, atLevel, firstWays, secondWays, dataWays, writeWays, first-pages, second-pages, data-pages, writable-pages}
 
 -- ---- the ways of all levels
 

@@ -24,20 +24,21 @@ use Rattle.reach.proofs.Lists.{Each, has-append, in-all}
 use Rattle.separation.specs.Apart.{runsAsUser}
 use Rattle.separation.specs.inner.Sides.{passes}
 use Rattle.separation.proofs.Mapped.{map-long, marked-is, byte-table, byte-writable, byte-in}
-use Rattle.reasons.specs.declared.Named.{Named}
-use Rattle.reasons.specs.declared.Way.{Way}
-use Rattle.reasons.specs.declared.Found.{Found}
-use Rattle.reasons.specs.declared.Found.the-variants.{Nothing, Lowest}
+use Rattle.ways.specs.declared.Named.{Named}
+use Rattle.ways.specs.declared.Way.{Way}
+use Rattle.ways.specs.declared.Found.{Found}
+use Rattle.ways.specs.declared.Found.the-variants.{Nothing, Lowest}
 use Rattle.reasons.specs.declared.Side.the-variants.{Group, Rest}
 use Rattle.reasons.specs.declared.Reason.{Reason}
 use Rattle.reasons.specs.declared.Reason.the-variants.{NoReason, NotUser, BeyondMemory, OwnTable, Touches}
-use Rattle.reasons.specs.declared.search.Want.{Want}
-use Rattle.reasons.specs.Ways.{ways}
-use Rattle.reasons.specs.Why.{page, lowestWay, grants, spoils, byWay, wayTo, withOwn, fails, firstFailing, modeReason, beyondReason, tableReason, touchReason, reasonAt, whyNumber, orElse, firstAfter}
-use Rattle.reasons.specs.inner.Search.{wanted, sought, faultAt, Faults, FaultsMarked, faulty, beyondFound, tableFound, touchFound, asReason, isNone, Sides}
+use Rattle.ways.specs.declared.search.Want.{Want}
+use Rattle.ways.specs.Ways.{ways, page, lowestWay}
+use Rattle.reasons.specs.Why.{grants, spoils, byWay, wayTo, withOwn, fails, firstFailing, modeReason, beyondReason, tableReason, touchReason, reasonAt, whyNumber, orElse, firstAfter}
+use Rattle.ways.specs.inner.Search.{wanted, sought}
+use Rattle.reasons.specs.inner.Judging.{faultAt, Faults, FaultsMarked, faulty, beyondFound, tableFound, touchFound, asReason, isNone, Sides}
 use Rattle.reasons.proofs.None.{isNothing, lowest-nothing, reached-all, grants-all, spoils-all}
-use Rattle.reasons.proofs.Lists.{select-none, each-weak, all-ext}
-use Rattle.reasons.proofs.Searches.{wanted-below, wanted-out, wanted-table, wanted-page}
+use Rattle.ways.proofs.Lists.{select-none, each-weak, all-ext}
+use Rattle.ways.proofs.Searches.{wanted-below, wanted-out, wanted-table, wanted-page}
 
 -- ---- modes
 

@@ -16,16 +16,16 @@ use Rattle.reach.specs.Lists.{range}
 use Rattle.reach.specs.Reach.{isGroup, members}
 use Rattle.reach.proofs.Lists.{if-both}
 use Rattle.separation.specs.Apart.{rest}
-use Rattle.reasons.specs.declared.Way.{Way}
-use Rattle.reasons.specs.declared.Found.{Found}
-use Rattle.reasons.specs.declared.Found.the-variants.{Nothing, Lowest}
+use Rattle.ways.specs.declared.Way.{Way}
+use Rattle.ways.specs.declared.Found.{Found}
+use Rattle.ways.specs.declared.Found.the-variants.{Nothing, Lowest}
 use Rattle.reasons.specs.declared.Side.{Side}
 use Rattle.reasons.specs.declared.Side.the-variants.{Group, Rest}
 use Rattle.reasons.specs.declared.Reason.{Reason}
 use Rattle.reasons.specs.declared.Reason.the-variants.{NoReason, Refused, NotUser, BeyondMemory, OwnTable, Touches}
-use Rattle.reasons.specs.Why.{page, byWay, wayTo, withOwn, fails, firstFailing, modeReason, beyondReason, tableReason, touchReason, reasonAt, sideNumber, whyNumber, firstAfter, whyAfter, rootNumber, recordNumber, coreWords, wayWords, firstWords, secondWords, whyWords, told}
-use Rattle.reasons.specs.Ways.{ways}
-use Rattle.reasons.specs.inner.Search.{beyondFound, tableFound, touchFound}
+use Rattle.ways.specs.Ways.{page, ways}
+use Rattle.reasons.specs.Why.{byWay, wayTo, withOwn, fails, firstFailing, modeReason, beyondReason, tableReason, touchReason, reasonAt, sideNumber, whyNumber, firstAfter, whyAfter, rootNumber, recordNumber, coreWords, wayWords, firstWords, secondWords, whyWords, told}
+use Rattle.reasons.specs.inner.Judging.{beyondFound, tableFound, touchFound}
 
 -- nine words written one by one
 pub nine : (l : List ℕ) (a b d e f g h i j : ℕ) → length l ≡ 9

@@ -2,30 +2,21 @@
 -- Assumes nothing.
 use mathlib.Core.Path.{_≡_}
 use mathlib.Core.Bool.{true, false}
-use mathlib.Core.List.{List, [], _∷_, _++_}
+use mathlib.Core.List.{List, _++_}
 use Prim.Native.Nat.{ℕ, _+_}
 use lib.Dec.{ltb}
-use Rattle.layout.specs.Blocks.{block}
 use Rattle.tables.specs.Views.{coresOf, pagesOf}
 use Rattle.reach.specs.Lists.{has}
 use Rattle.reach.specs.Reach.{members, reach, tablePages, reached}
 use Rattle.separation.specs.declared.Verdict.the-variants as verdict
 use Rattle.separation.specs.Apart.{rest, runsAsUser, apartOn}
-use Rattle.reasons.specs.declared.Way.{Way}
+use Rattle.ways.specs.declared.Way.{Way}
 use Rattle.reasons.specs.declared.Side.{Side}
 use Rattle.reasons.specs.declared.Side.the-variants.{Group, Rest}
 use Rattle.reasons.specs.declared.Reason.{Reason}
 use Rattle.reasons.specs.declared.Reason.the-variants.{NoReason, Refused, NotUser, BeyondMemory, OwnTable, Touches}
-use Rattle.reasons.specs.Ways.{rootNamed, isRoot, followed}
-use Rattle.reasons.specs.Why.{page, grants, spoils, whyAfter}
-
--- A way of one of the cores cs begins at a root that the core's block holds and goes one level down with each entry; followed from there, through present
--- entries, it comes to what it names.
-pub record Real (cs t m : List ℕ) (w : Way) : Type 0 where
-  pub of-core : has (w .core) cs ≡ true
-  pub begins : isRoot (block t (w .core)) (w .root) ≡ true
-  pub depth : w .names .level + w .entries ≡ rootNamed (block t (w .core)) (w .root) .level
-  pub follows : followed t m w ≡ w .names ∷ []
+use Rattle.ways.specs.Ways.{page, Real}
+use Rattle.reasons.specs.Why.{grants, spoils, whyAfter}
 
 abbrev pub coresIn : ℕ → List ℕ → Side → List ℕ
 coresIn g t Group = members g (coresOf t)

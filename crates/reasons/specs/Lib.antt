@@ -1,4 +1,3 @@
-pub mod Ways
 pub mod Why
 pub mod Grounds
 pub mod inner

@@ -12,30 +12,16 @@ use Rattle.tables.specs.Sound.{sound}
 use Rattle.reach.specs.Lists.{range, has, select}
 use Rattle.reach.specs.Reach.{isGroup, members, reach, tablePages, reached}
 use Rattle.separation.specs.Apart.{rest, runsAsUser}
-use Rattle.reasons.specs.declared.Root.{Root}
-use Rattle.reasons.specs.declared.Root.the-variants.{AtOrigin, AtWalk, AtStore}
-use Rattle.reasons.specs.declared.Way.{Way}
-use Rattle.reasons.specs.declared.Found.{Found}
-use Rattle.reasons.specs.declared.Found.the-variants.{Nothing, Lowest}
+use Rattle.ways.specs.declared.Root.{Root}
+use Rattle.ways.specs.declared.Root.the-variants.{AtOrigin, AtWalk, AtStore}
+use Rattle.ways.specs.declared.Way.{Way}
+use Rattle.ways.specs.declared.Found.{Found}
+use Rattle.ways.specs.declared.Found.the-variants.{Nothing, Lowest}
 use Rattle.reasons.specs.declared.Side.{Side}
 use Rattle.reasons.specs.declared.Side.the-variants.{Group, Rest}
 use Rattle.reasons.specs.declared.Reason.{Reason}
 use Rattle.reasons.specs.declared.Reason.the-variants.{NoReason, Refused, NotUser, BeyondMemory, OwnTable, Touches}
-use Rattle.reasons.specs.Ways.{ways}
-
--- ---- the way to the lowest page, the first of them
-
-abbrev pub page : Way → ℕ
-page w = w .names .page
-
-unfoldable pub lower : Found → Found → Found
-lower Nothing b = b
-lower (Lowest v) Nothing = Lowest v
-lower (Lowest v) (Lowest w) = if ltb (page w) (page v) then Lowest w else Lowest v
-
-unfoldable pub lowestWay : List Way → Found
-lowestWay [] = Nothing
-lowestWay (w ∷ l) = lower (Lowest w) (lowestWay l)
+use Rattle.ways.specs.Ways.{ways, page, lowestWay}
 
 -- ---- reasons
 

@@ -1,13 +1,13 @@
 // The six reasons, each by itself (specs/Why.antt).
-use super::Found;
 use super::Reason;
 use super::Side;
-use super::Way;
-use super::roots::find;
-use super::search::Want;
 use layout::CORES;
 use layout::MOST_PAGES;
 use layout::PAGES;
+use ways::Found;
+use ways::Way;
+use ways::roots::find;
+use ways::search::Want;
 ghost use mathlib.Core.Path.{_≡_};
 ghost use mathlib.Core.Bool.{true, not};
 ghost use Prim.Native.Nat.{_+_, _-_, _*_, _<_, _≤_, _^_};
@@ -15,9 +15,10 @@ ghost use lib.ListN.{length};
 ghost use Rattle.tables.specs.Views.{coresOf, pagesOf};
 ghost use Rattle.tables.specs.Sound.{sound};
 ghost use Rattle.reach.specs.Reach.{members, reach, inMemory, mapFor};
-ghost use Rattle.reasons.specs.Ways as w;
+ghost use Rattle.ways.specs.Ways as w;
 ghost use Rattle.reasons.specs.Why as x;
-ghost use Rattle.reasons.specs.inner.Search as y;
+ghost use Rattle.ways.specs.inner.Search.{sought};
+ghost use Rattle.reasons.specs.inner.Judging as y;
 
 fn side_number(s: Side) -> u32
     ensures { λ r. ⌜ (r ≡ x.sideNumber s) × (r < 2) ⌝ }
@@ -113,7 +114,7 @@ fn marked(
 ) -> Found
     requires { ⌜ (sound (now t) (length (now m)) ≡ true) × (1 ≤ kind) × (kind ≤ 2) ⌝ }
     requires { ⌜ (length (now own) ≡ pagesOf (now t)) × (length (now other) ≡ pagesOf (now t)) × (length (now marks) ≡ pagesOf (now t)) ⌝ }
-    ensures { λ r. ⌜ r ≡ y.sought (y.faulty kind (pagesOf (now (t .entry))) (now (own .entry)) (now (other .entry))) (w.ways (members group (coresOf (now (t .entry)))) (now (t .entry)) (now (m .entry))) ⌝ }
+    ensures { λ r. ⌜ r ≡ sought (y.faulty kind (pagesOf (now (t .entry))) (now (own .entry)) (now (other .entry))) (w.ways (members group (coresOf (now (t .entry)))) (now (t .entry)) (now (m .entry))) ⌝ }
 {
     let low = mark_faults(kind, own, other, marks);
     if t[PAGES] <= low {
@@ -126,7 +127,7 @@ fn marked(
 fn at_fault(t: &[u32], m: &[u8], kind: u32, own: &[u8], other: &[u8], group: u32) -> Found
     requires { ⌜ (sound (now t) (length (now m)) ≡ true) × (1 ≤ kind) × (kind ≤ 2) ⌝ }
     requires { ⌜ (length (now own) ≡ pagesOf (now t)) × (length (now other) ≡ pagesOf (now t)) ⌝ }
-    ensures { λ r. ⌜ r ≡ y.sought (y.faulty kind (pagesOf (now (t .entry))) (now (own .entry)) (now (other .entry))) (w.ways (members group (coresOf (now (t .entry)))) (now (t .entry)) (now (m .entry))) ⌝ }
+    ensures { λ r. ⌜ r ≡ sought (y.faulty kind (pagesOf (now (t .entry))) (now (own .entry)) (now (other .entry))) (w.ways (members group (coresOf (now (t .entry)))) (now (t .entry)) (now (m .entry))) ⌝ }
 {
     let pages = t[PAGES] as usize;
     let mut marks = [0u8; MOST_PAGES];

@@ -1,7 +1,7 @@
 // An answer in words, nine for each way (specs/Why.antt).
 use super::Reason;
-use super::Root;
-use super::Way;
+use ways::Root;
+use ways::Way;
 ghost use mathlib.Core.Path.{_≡_};
 ghost use lib.ListN.{length};
 ghost use Rattle.reasons.specs.Why as x;

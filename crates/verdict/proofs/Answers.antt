@@ -1,6 +1,6 @@
 -- Laws of the report: lines after lines, and what is said of each verdict.
 -- Assumes nothing.
-use mathlib.Core.Path.{_≡_, refl, sym, ap, ap₂, _∙_, subst}
+use mathlib.Core.Path.{_≡_, refl, sym, ap, _∙_, subst}
 use mathlib.Core.Bool.{Bool, true, false, not}
 use mathlib.Core.Logic.{_≢_}
 use mathlib.Core.List.{List, [], _++_, append-nil, append-assoc}
@@ -19,10 +19,9 @@ use Rattle.separation.specs.declared.Verdict.{Verdict}
 use Rattle.separation.specs.declared.Verdict.the-variants.{No, Yes, Refused}
 use Rattle.reasons.specs.declared.Reason.{Reason}
 use Rattle.reasons.specs.Why.{whyNumber, firstAfter, whyAfter, firstWords, secondWords}
-use Rattle.reasons.specs.inner.Search.{isNone}
+use Rattle.reasons.specs.inner.Judging.{isNone}
 use Rattle.reasons.proofs.None.{no-reason}
 use Rattle.reasons.proofs.Telling.{judged}
-use Rattle.verdict.specs.declared.reason.Way.{Way}
 use Rattle.verdict.specs.Reasons.{wayOf, reasonText, reasonLines}
 use Rattle.verdict.specs.Wrong.{refusedText}
 use Rattle.verdict.specs.Report.{shownSides, sidesText, Reported}
@@ -58,17 +57,16 @@ module _ (g : ℕ) (t m : List ℕ) (s : sound t (length m) ≡ true) (i : isGro
     pub line-done : n ≡ 0 → Put b at whole u c
     line-done z = all-lines (ap (λ (d : ℕ). reasonLines d a g t m) left ∙ no-line (6 - (k + 1)) a n r e p z) L
 
-    -- the two ways, by the words that were written
-    pub line-more : (w x : Way) (f s : List ℕ) → w ≡ wayOf f → x ≡ wayOf s → f ≡ firstWords r → s ≡ secondWords r → n ≢ 0 → {v : ℕ} {d : List ℕ} → Put c u (reasonText n w x) v d → LinesLeft whole b at v d (reasonLines (6 - (k + 1)) n g t m)
-    line-more w x f s i j o q z P =
+    abbrev lines : List ℕ
+    lines = reasonText n (wayOf (firstWords r)) (wayOf (secondWords r))
+
+    pub line-more : n ≢ 0 → {v : ℕ} {d : List ℕ} → Put c u (reasonText n (wayOf (firstWords r)) (wayOf (secondWords r))) v d → LinesLeft whole b at v d (reasonLines (6 - (k + 1)) n g t m)
+    line-more z P =
         record {
           text = L .text ++ lines;
-          put = follow (L .put) (reworded (ap₂ (reasonText n) (i ∙ ap wayOf o) (j ∙ ap wayOf q)) P);
+          put = follow (L .put) P;
           parts = append-assoc (L .text) lines (reasonLines (6 - (k + 1)) n g t m) ∙ ap (λ (y : List ℕ). L .text ++ y) (sym (ap (λ (d : ℕ). reasonLines d a g t m) left ∙ next-line (6 - (k + 1)) a n r e p z)) ∙ L .parts;
         }
-      where
-        lines : List ℕ
-        lines = reasonText n (wayOf (firstWords r)) (wayOf (secondWords r))
 
   pub line-last : (k a : ℕ) → 6 ≤ k → {whole b : List ℕ} {at r : ℕ} {c : List ℕ} → LinesLeft whole b at r c (reasonLines (6 - k) a g t m) → Put b at whole r c
   unfolding reasonLines

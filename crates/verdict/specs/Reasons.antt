@@ -7,7 +7,7 @@ use lib.ListN.{getD}
 use Rattle.word.specs.Word.{if_then_else_}
 use Rattle.io.specs.Digits.{digits}
 use Rattle.text.specs.Text.{ascii, decimal}
-use Rattle.reasons.specs.Ways.{entryPlace}
+use Rattle.ways.specs.Ways.{entryPlace}
 use Rattle.reasons.specs.Why.{whyNumber, whyAfter, firstWords, secondWords}
 use Rattle.verdict.specs.declared.reason.Way.{Way}
 

@@ -1,4 +1,5 @@
 // The lines for a reason (specs/Reasons.antt).
+use reasons::Reason;
 use text::put;
 use text::put_hex;
 use text::put_number;
@@ -8,6 +9,7 @@ ghost use Prim.Native.Nat.{_+_, _≤_};
 ghost use lib.ListN.{length};
 ghost use Rattle.text.specs.Text.{Put, decimal};
 ghost use Rattle.io.specs.Digits.{digits};
+ghost use Rattle.reasons.specs.Why.{firstWords, secondWords};
 ghost use Rattle.verdict.specs.Reasons as x;
 
 // What reasons::tell says of a way: its core, the page at fault and its level there, where the way begins (0 the page in pto, 1 a walk,
@@ -23,7 +25,7 @@ pub struct Way {
     pub second: u32,
 }
 
-pub fn way_of(w: &[u32; 9]) -> Way
+fn way_of(w: &[u32; 9]) -> Way
     ensures { λ r. ⌜ r ≡ x.wayOf (now (w .entry)) ⌝ }
 {
     Way {
@@ -192,10 +194,22 @@ fn put_own(out: &mut [u8], at: usize, n: u32, v: Way) -> usize
 }
 
 // All of reason n, with both of its ways: at most 456 bytes.
-pub fn put_reason(out: &mut [u8], at: usize, n: u32, w: Way, v: Way) -> usize
+fn put_reason(out: &mut [u8], at: usize, n: u32, w: Way, v: Way) -> usize
     requires { ⌜ at + 498 ≤ length (now out) ⌝ }
     ensures { λ r. ⌜ Put (now (out .entry)) at (x.reasonText n w v) r (now (out .exit)) × (r ≤ at + 456) ⌝ }
 {
     let p = put_fault(out, at, n, w);
     put_own(out, p, n, v)
+}
+
+// A reason by its number, as the words of its ways say it.
+pub fn put_told(out: &mut [u8], at: usize, n: u32, a: Reason) -> usize
+    requires { ⌜ at + 498 ≤ length (now out) ⌝ }
+    ensures { λ r. ⌜ Put (now (out .entry)) at (x.reasonText n (x.wayOf (firstWords a)) (x.wayOf (secondWords a))) r (now (out .exit)) × (r ≤ at + 456) ⌝ }
+{
+    let mut first = [0u32; 9];
+    let mut second = [0u32; 9];
+    reasons::words::put(&mut first, a);
+    reasons::words::put_second(&mut second, a);
+    put_reason(out, at, n, way_of(&first), way_of(&second))
 }

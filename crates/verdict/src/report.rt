@@ -12,7 +12,7 @@ ghost use Rattle.tables.specs.Views.{coresOf, pagesOf};
 ghost use Rattle.tables.specs.Sound.{sound};
 ghost use Rattle.reach.specs.Reach.{isGroup};
 ghost use Rattle.separation.specs.Apart.{apartOn};
-ghost use Rattle.reasons.specs.inner.Search.{Sides};
+ghost use Rattle.reasons.specs.inner.Judging.{Sides};
 ghost use Rattle.verdict.specs.Reasons.{reasonLines};
 ghost use Rattle.verdict.specs.Report as x;
 ghost use Rattle.verdict.specs.inner.Lines as y;
@@ -56,8 +56,6 @@ fn put_reasons(
     requires { ⌜ Sides group others (now t) (now m) (now own) (now other) strays astray ⌝ }
     ensures { λ r. ⌜ Put (now (out .entry)) at (reasonLines 6 0 group (now (t .entry)) (now (m .entry))) r (now (out .exit)) × (r ≤ at + 2736) ⌝ }
 {
-    let mut first = [0u32; 9];
-    let mut second = [0u32; 9];
     let mut after: u32 = 0;
     let mut p = at;
     let mut i: usize = 0;
@@ -67,11 +65,7 @@ fn put_reasons(
         if after == 0 {
             return p;
         }
-        reasons::words::put(&mut first, r);
-        reasons::words::put_second(&mut second, r);
-        let fault = crate::reason::way_of(&first);
-        let reached = crate::reason::way_of(&second);
-        p = crate::reason::put_reason(out, p, after, fault, reached);
+        p = crate::reason::put_told(out, p, after, r);
         i += 1;
     }
     p

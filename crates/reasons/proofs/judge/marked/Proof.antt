@@ -7,7 +7,7 @@ use borrow.Author.Needs.{needs}
 use Rattle.tables.specs.Views.{coresOf, pagesOf}
 use Rattle.tables.proofs.Lift.{header}
 use Rattle.reach.specs.Reach.{members}
-use Rattle.reasons.specs.Ways.{ways}
+use Rattle.ways.specs.Ways.{ways}
 use Rattle.reasons.proofs.Reasons.{none-faulty, find-faulty}
 use Rattle.reasons.proofs.judge.marked.Statement.{statement}
 use Rattle.reasons.proofs.judge.marked.Tie as tie

@@ -5,7 +5,7 @@ use denote.Ref.{now}
 use borrow.Author.Needs.{needs}
 use Rattle.tables.specs.Views.{coresOf, pagesOf}
 use Rattle.reach.specs.Reach.{members}
-use Rattle.reasons.specs.Ways.{ways}
+use Rattle.ways.specs.Ways.{ways}
 use Rattle.reasons.proofs.Reasons.{itself-is}
 use Rattle.reasons.proofs.judge.way_to.Statement.{statement}
 use Rattle.reasons.proofs.judge.way_to.Tie as tie

@@ -6,23 +6,22 @@ use native.Mathlib.Omega.{arith}
 use lib.ListN.{length}
 use denote.Ref.{now}
 use borrow.Author.Needs.{needs}
-use Rattle.text.proofs.Texts.{reworded}
 use Rattle.reasons.specs.Why.{whyNumber}
 use Rattle.reasons.proofs.Telling.{after-small}
-use Rattle.verdict.specs.Reasons.{reasonText, reasonLines}
+use Rattle.verdict.specs.Reasons.{reasonLines}
 use Rattle.verdict.specs.inner.Lines.{LinesLeft}
 use Rattle.verdict.proofs.Answers.{first-line, line-done, line-more, line-last}
 use Rattle.verdict.proofs.report.put_reasons.Statement.{statement}
 use Rattle.verdict.proofs.report.put_reasons.Tie as tie
 
 abbrev Inv-loop : tie.InvT-loop
-Inv-loop out₀ at t m group others own other strays astray words₀ after₀ p₀ i₀ out words after p i = LinesLeft (reasonLines 6 0 group t m) out₀ at p out (reasonLines (6 - i) after group t m) × (i ≤ 6) × (p ≤ at + 228 * i) × (9 ≡ length words)
+Inv-loop out₀ at t m group others own other strays astray after₀ p₀ i₀ out after p i = LinesLeft (reasonLines 6 0 group t m) out₀ at p out (reasonLines (6 - i) after group t m) × (i ≤ 6) × (p ≤ at + 456 * i)
 
 abbrev μ-loop : tie.MeasureT-loop
-μ-loop out₀ at t m group others own other strays astray words₀ after₀ p₀ i₀ out words after p i = 6 - i
+μ-loop out₀ at t m group others own other strays astray after₀ p₀ i₀ out after p i = 6 - i
 
 loop-holds : tie.Need-loop-holds Inv-loop μ-loop
-loop-holds c = (first-line _ _ _, omega arith, omega arith, search needs)
+loop-holds c = (first-line _ _ _, omega arith, omega arith)
 
 first-after-requires : tie.Need-first-after-requires Inv-loop μ-loop
 first-after-requires c κs = (c .before .before .before .before .before .before .before .pre .0 .0, c .before .before .before .before .before .before .before .pre .1)
@@ -36,17 +35,8 @@ same-length c = c .before .before .before .before .loop .inv .0 .put .kept
 returns : tie.Need-returns Inv-loop μ-loop
 returns c = let l = c .before .before .before .before .loop in (line-done (c .before .before .before .before .before .before .before .before .before .before .args .group) (now (c .before .before .before .before .before .before .before .before .before .before .args .t)) (now (c .before .before .before .before .before .before .before .before .before .before .args .m)) (c .before .before .before .before .before .before .before .before .before .before .pre .0 .0) (c .before .before .before .before .before .before .before .before .before .before .pre .0 .1) (l .i) (l .after) _ _ (c .before .before .first-after .ensures) (c .before .number .ensures) (c .before .before .before .loop-test .taken) (l .inv .0) (c .if1 .taken), omega arith)
 
-slice-aggregate-put : tie.Need-slice-aggregate-put Inv-loop μ-loop
-slice-aggregate-put c = search needs
-
-put-requires : tie.Need-put-requires Inv-loop μ-loop
-put-requires c κs = let l = c .before .before .before .before .before .loop in sym (l .inv .3)
-
-way-of-requires : tie.Need-way-of-requires Inv-loop μ-loop
-way-of-requires c κs = search needs
-
-put-reason-requires : tie.Need-put-reason-requires Inv-loop μ-loop
-put-reason-requires c κs = let l = c .before .before .before .before .before .before .before .before .before .before .loop in omega (arith, l .inv .0 .put .kept, l .inv .2)
+put-told-requires : tie.Need-put-told-requires Inv-loop μ-loop
+put-told-requires c κs = let l = c .before .before .before .before .before .loop in omega (arith, l .inv .0 .put .kept, l .inv .2)
 
 add-i : tie.Need-add-i Inv-loop μ-loop
 add-i c = search needs
@@ -55,7 +45,10 @@ loop-less : tie.Need-loop-less Inv-loop μ-loop
 loop-less c = search needs
 
 loop-again : tie.Need-loop-again Inv-loop μ-loop
-loop-again c = let l = c .before .before .before .before .before .before .before .before .before .before .before .before .before .loop in (line-more (c .before .before .before .before .before .before .before .before .before .before .before .before .before .before .before .before .before .before .before .args .group) (now (c .before .before .before .before .before .before .before .before .before .before .before .before .before .before .before .before .before .before .before .args .t)) (now (c .before .before .before .before .before .before .before .before .before .before .before .before .before .before .before .before .before .before .before .args .m)) (c .before .before .before .before .before .before .before .before .before .before .before .before .before .before .before .before .before .before .before .pre .0 .0) (c .before .before .before .before .before .before .before .before .before .before .before .before .before .before .before .before .before .before .before .pre .0 .1) (l .i) (l .after) _ _ (c .before .before .before .before .before .before .before .before .before .before .before .first-after .ensures) (c .before .before .before .before .before .before .before .before .before .before .number .ensures) (c .before .before .before .before .before .before .before .before .before .before .before .before .loop-test .taken) (l .inv .0) _ (c .before .before .before .before .before .before .before .put .ensures) (c .before .before .before .before .before .before .before .before .before .if1 .left) (reworded (ap (reasonText _) (c .before .before .before .way-of .ensures)) (c .before .before .put-reason .ensures .0)), omega arith, omega (arith, c .before .before .put-reason .ensures .1), search needs)
+loop-again c =
+    let e = c .before .before .before .before .before .before .before .before .before .before .before .before .before .before in
+    let l = c .before .before .before .before .before .before .before .before .loop in
+    (line-more (e .args .group) (now (e .args .t)) (now (e .args .m)) (e .pre .0 .0) (e .pre .0 .1) (l .i) (l .after) _ _ (c .before .before .before .before .before .before .first-after .ensures) (c .before .before .before .before .before .number .ensures) (c .before .before .before .before .before .before .before .loop-test .taken) (l .inv .0) (c .before .before .before .before .if1 .left) (c .before .before .put-told .ensures .0), omega arith, omega (arith, c .before .before .put-told .ensures .1))
 
 same-length-2 : tie.Need-same-length-2 Inv-loop μ-loop
 same-length-2 c = c .before .loop .inv .0 .put .kept
@@ -74,10 +67,7 @@ put-reasons-spec =
     number-requires
     same-length
     returns
-    slice-aggregate-put
-    put-requires
-    way-of-requires
-    put-reason-requires
+    put-told-requires
     add-i
     loop-less
     loop-again

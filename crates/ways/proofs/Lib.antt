@@ -1,0 +1,5 @@
+pub mod Lists
+pub mod Pages
+pub mod Real
+pub mod Searches
+pub mod Blocks
