@@ -20,6 +20,9 @@ use Rattle.text.specs.Text.{Put, decimalIn, decimal, blanks, padded}
 pub none : (b : List ℕ) (at : ℕ) → Put b at [] (at + 0) b
 none b at = record { place = refl; kept = refl; front = let e : at + 0 ≡ at = omega arith in rw e (sym (append-nil (take at b))); beyond = refl }
 
+pub nothing : (b : List ℕ) (at : ℕ) → Put b at [] at b
+nothing b at = let e : at + 0 ≡ at = omega arith in rw e at (none b at)
+
 -- what agrees from a place on agrees from any later one
 further : (c b : List ℕ) (r q : ℕ) → r ≤ q → drop r c ≡ drop r b → drop q c ≡ drop q b
 further c b r q h e =

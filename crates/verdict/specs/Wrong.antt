@@ -44,12 +44,3 @@ badPagesText n = ascii "word 1 says " ++ decimal n ++ ascii " pages, not 1 to 40
 
 unfoldable pub stackText : ℕ → List ℕ
 stackText pages = ascii "a map of " ++ decimal pages ++ ascii " pages needs a larger stack: type 'ulimit -s 32768' first\n"
-
-abbrev pub refusedWhy : ℕ → List ℕ
-refusedWhy n =
-    if eqb n 4 then ascii ": the tables are not sound\n"
-    else if eqb n 13 then ascii ": a core of the group is not there\n"
-    else ascii "\n"
-
-unfoldable pub refusedText : ℕ → List ℕ
-refusedText n = ascii "refused " ++ decimal n ++ refusedWhy n

@@ -1,8 +1,4 @@
 // The verdict on a group of cores: a machine from standard input, the group's cores as arguments, and a report on standard output.
-mod lines;
-mod pages;
-mod reason;
-mod report;
 mod stack;
 mod wrong;
 
@@ -137,7 +133,7 @@ fn judge(out: &mut [u8], t: &[u32], m: &mut [u8], group: u32, cores: u32, pages:
     if is_more() {
         return wrong::put_long(out, cores, pages, bytes);
     }
-    report::put_report(out, t, m, group)
+    judgement::put_report(out, t, m, group)
 }
 
 // The same in as much of the space lent as the pages take.

@@ -146,25 +146,3 @@ pub fn put_long(out: &mut [u8], cores: u32, pages: u32, bytes: u64) -> usize
     let p = put(out, 0, b"the input is too long");
     put_machine(out, p, cores, pages, bytes)
 }
-
-fn put_refused_why(out: &mut [u8], at: usize, n: u32) -> usize
-    requires { ⌜ at + 40 ≤ length (now out) ⌝ }
-    ensures { λ r. ⌜ Put (now (out .entry)) at (x.refusedWhy n) r (now (out .exit)) × (r ≤ at + 40) ⌝ }
-{
-    if n == 4 {
-        return put(out, at, b": the tables are not sound\n");
-    }
-    if n == 13 {
-        return put(out, at, b": a core of the group is not there\n");
-    }
-    put(out, at, b"\n")
-}
-
-pub fn put_refused(out: &mut [u8], n: u32) -> usize
-    requires { ⌜ 200 ≤ length (now out) ⌝ }
-    ensures { λ r. ⌜ Put (now (out .entry)) 0 (x.refusedText n) r (now (out .exit)) × (r ≤ 200) ⌝ }
-{
-    let p = put(out, 0, b"refused ");
-    let q = put_number(out, p, n as u64);
-    put_refused_why(out, q, n)
-}

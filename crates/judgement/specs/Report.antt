@@ -1,0 +1,43 @@
+-- What is said of a group: the report, or the one line of a refusal.
+-- Assumes nothing.
+use mathlib.Core.List.{List, _++_}
+use Prim.Native.Nat.{ℕ}
+use lib.Dec.{eqb}
+use Rattle.word.specs.Word.{if_then_else_}
+use Rattle.text.specs.Text.{Put, ascii, decimal}
+use Rattle.tables.specs.Views.{coresOf}
+use Rattle.reach.specs.Reach.{members, mapFor}
+use Rattle.separation.specs.Apart.{rest}
+use Rattle.separation.specs.declared.Verdict.{Verdict}
+use Rattle.separation.specs.declared.Verdict.the-variants.{No, Yes, Refused}
+use Rattle.picture.specs.Pages.{picture}
+use Rattle.picture.specs.Lines.{sideText, legendText}
+use Rattle.reason_lines.specs.Reasons.{reasonLines}
+
+-- ---- a refusal
+
+abbrev pub refusedWhy : ℕ → List ℕ
+refusedWhy n =
+    if eqb n 4 then ascii ": the tables are not sound\n"
+    else if eqb n 13 then ascii ": a core of the group is not there\n"
+    else ascii "\n"
+
+unfoldable pub refusedText : ℕ → List ℕ
+refusedText n = ascii "refused " ++ decimal n ++ refusedWhy n
+
+-- ---- the report
+
+-- the lines of the sides, by their cores, and the picture of their maps
+abbrev pub shownSides : List ℕ → List ℕ → List ℕ → List ℕ → List ℕ
+shownSides group others own other =
+    sideText (ascii "group: ") group own ++ sideText (ascii "rest: ") others other ++ picture own other ++ legendText
+
+unfoldable pub sidesText : ℕ → List ℕ → List ℕ → List ℕ
+sidesText g t m =
+    shownSides (members g (coresOf t)) (rest g t) (mapFor (members g (coresOf t)) t m) (mapFor (rest g t) t m)
+
+-- bytes b are c after what is said of a verdict, up to place r; there are at most six reasons
+unfoldable pub Reported : Verdict → List ℕ → ℕ → List ℕ → List ℕ → ℕ → List ℕ → Type 0
+Reported (Refused n) b g t m r c = Put b 0 (refusedText n) r c
+Reported Yes b g t m r c = Put b 0 (sidesText g t m ++ ascii "apart\n") r c
+Reported No b g t m r c = Put b 0 (sidesText g t m ++ reasonLines 6 0 g t m ++ ascii "not apart\n") r c
