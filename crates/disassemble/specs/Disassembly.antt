@@ -1,6 +1,5 @@
 -- The text of an instruction word (02): mnemonic and operands as the column 'assembler syntax' of tables 1 to 4 has them.
 -- Assumes nothing.
-use mathlib.Core.Path.{_≡_}
 use mathlib.Core.Bool.{not}
 use mathlib.Core.List.{List, [], _∷_, _++_}
 use Prim.Native.Nat.{ℕ, suc, _+_, _-_}
@@ -156,11 +155,6 @@ textFor s w = ascii (s .mnemonic) ++ operandsText (s .operands) w
 
 unfoldable pub disassembly : ℕ → List ℕ
 disassembly w = textFor (syntaxOf (decoded w)) w
-
--- two words are equal in every field that a row's operands name
-abbrev pub SameFields : List Operand → ℕ → ℕ → Type 0
-SameFields [] v w = Unit {0}
-SameFields (o ∷ l) v w = (fieldOf o v ≡ fieldOf o w) × SameFields l v w
 
 -- ---- the operation: the text in a buffer of 32 bytes, zero beyond it, and its length; or 17, and nothing is written
 

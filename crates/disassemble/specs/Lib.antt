@@ -1,2 +1,3 @@
 pub mod Disassembly
+pub mod Named
 pub mod inner

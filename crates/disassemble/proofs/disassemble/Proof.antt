@@ -1,11 +1,11 @@
 use native.Mathlib.Omega.{arith}
 use borrow.Author.Needs.{needs}
-use Rattle.disassemble.proofs.Answers.{refused, form-fits, written}
+use Rattle.disassemble.proofs.Answers.{numbered, refused, form-fits, written}
 use Rattle.disassemble.proofs.disassemble.Statement.{statement}
 use Rattle.disassemble.proofs.disassemble.Tie as tie
 
 returns : tie.Need-returns
-returns c = refused (c .before .before .args .w) _ (c .if1 .taken)
+returns c = numbered (c .before .before .args .w) _ (refused (c .before .before .args .w) _ (c .if1 .taken))
 
 form-requires : tie.Need-form-requires
 form-requires c κs = search needs
@@ -26,7 +26,7 @@ same-length : tie.Need-same-length
 same-length c = search needs
 
 returns-2 : tie.Need-returns-2
-returns-2 c = written (c .before .before .before .before .before .before .before .before .before .before .before .args .w) (c .before .before .before .before .before .before .before .before .before .if1 .left) (c .before .before .before .before .before .before .before .form .ensures) (c .before .before .before .before .before .before .put-form .ensures) (c .before .before .clear .ensures)
+returns-2 c = numbered (c .before .before .before .before .before .before .before .before .before .before .before .args .w) _ (written (c .before .before .before .before .before .before .before .before .before .before .before .args .w) (c .before .before .before .before .before .before .before .before .before .if1 .left) (c .before .before .before .before .before .before .before .form .ensures) (c .before .before .before .before .before .before .put-form .ensures) (c .before .before .clear .ensures))
 
 pub disassemble-spec : {M : Type 1} → statement M
 disassemble-spec =
