@@ -8,11 +8,13 @@ use lib.ListN.{length, take, replicate}
 use borrow.Author.Tests.{eq-eqb, ne-eqb}
 use Rattle.text.specs.Text.{Put}
 use Rattle.decode.specs.Table.{decoded}
-use Rattle.disassemble.specs.declared.Form.{Form}
+use Rattle.forms.specs.declared.Form.{Form}
+use Rattle.forms.specs.Syntax.{syntaxOf}
+use Rattle.forms.specs.inner.Forms.{formOf}
 use Rattle.disassemble.specs.declared.Disassembled.{Disassembled}
 use Rattle.disassemble.specs.declared.Disassembled.the-variants.{Length, Refused}
-use Rattle.disassemble.specs.Disassembly.{syntaxOf, disassembly, disassembleOn, disassembledNumber}
-use Rattle.disassemble.specs.inner.Forms.{formOf, formText}
+use Rattle.disassemble.specs.Disassembly.{disassembly, disassembleOn, disassembledNumber}
+use Rattle.disassemble.specs.inner.Texts.{formText}
 use Rattle.disassemble.proofs.Rows.{form-text, text-fits}
 
 -- the answer and the bytes, and so the number of the answer

@@ -1,5 +1,5 @@
--- A text tells the row and every field that the row names: it comes apart at its blanks, no two rows have the same mnemonic, and each way in which a field is
--- shown tells the field.
+-- A text tells the row and every field that the row names: it comes apart at its blanks, no two rows have the same
+-- mnemonic, each field that a row names is shown, and each way in which a field is shown tells the field.
 -- Assumes nothing.
 use mathlib.Core.Path.{_≡_, refl, sym, ap, _∙_}
 use mathlib.Core.Bool.{Bool, true, false, not, _&&_, _||_}
@@ -8,26 +8,27 @@ use mathlib.Core.List.{List, [], _∷_, _++_}
 use Prim.Native.Nat.{ℕ, _+_, _-_, _≤_, _<_, _^_}
 use native.Mathlib.Nat.{mod-eq-of-lt}
 use native.Mathlib.Omega.{arith}
-use lib.Dec.{T, eqb}
+use lib.Dec.{eqb}
 use lib.IntN.{ℤ, pos, negsuc}
 use lib.ListN.{getD}
 use borrow.Author.Tests.{eqb-true}
 use Rattle.word.specs.Word.{if_then_else_, signed, twoc}
-use Rattle.word.proofs.Tests.{truth, true-false, and-left, and-right, same, same-eq}
+use Rattle.word.proofs.Tests.{true-false}
 use Rattle.word.proofs.Truth.{and-right as second}
 use Rattle.word.proofs.Laws.{side}
-use Rattle.text.specs.Text.{ascii, decimal}
+use Rattle.text.specs.Text.{decimal}
 use Rattle.text.proofs.Decimals.{free, decimal-free, valueFrom, decimal-value, decimal-tells}
 use Rattle.decode.specs.declared.Instruction.{Instruction}
 use Rattle.decode.specs.Fields.{rs, rt, rd, sa, imm, iindex}
-use Rattle.decode.specs.Table.{table, decoded}
-use Rattle.decode.specs.Mnemonics.{number}
-use Rattle.decode.proofs.Numbers.{nameAt, numbered, everywhere, every}
-use Rattle.disassemble.specs.declared.Operand.{Operand}
-use Rattle.disassemble.specs.declared.Operand.the-variants.{Rs, Rt, Rd, Sa, Imm, Uimm, Iindex}
-use Rattle.disassemble.specs.Disassembly.{Syntax, syntaxes, syntaxOf, integerText, fieldOf, shownAs, operandText, operandsText, textFor, disassembly}
-use Rattle.disassemble.specs.Named.{namesRs, namesRt, namesRd, namesSa, namesImm, namesIindex, SameNamed}
-use Rattle.disassemble.proofs.Rows.{sameBytes, signed-low, signed-high}
+use Rattle.decode.specs.Table.{decoded}
+use Rattle.forms.specs.declared.Operand.{Operand}
+use Rattle.forms.specs.declared.Operand.the-variants.{Rs, Rt, Rd, Sa, Imm, Uimm, Iindex}
+use Rattle.forms.specs.Syntax.{syntaxOf}
+use Rattle.forms.specs.Named.{SameNamed}
+use Rattle.forms.proofs.Rows.{mnemonic, mnemonic-free, mnemonic-tells}
+use Rattle.forms.proofs.Named.{fieldNumber, shows, AllShown, all-shown}
+use Rattle.disassemble.specs.Disassembly.{integerText, fieldOf, shownAs, operandText, operandsText, textFor, disassembly}
+use Rattle.disassemble.proofs.Rows.{signed-low, signed-high}
 
 -- ---- a text comes apart at its blanks
 
@@ -133,76 +134,6 @@ operands-tell (o ∷ l) v w e =
     first-word (shownAs o (fieldOf o v)) (shownAs o (fieldOf o w)) (operandsText l v) (operandsText l w) (shown-free o v) (shown-free o w) (operands-parted l v) (operands-parted l w)
     (ap rest e) in
     (shown-tells o v w (s .0), operands-tell l v w (s .1))
-
--- ---- mnemonics
-
--- the number of the row with a mnemonic
-abbrev numberIn : List Syntax → List ℕ → ℕ
-numberIn [] m = 61
-numberIn (s ∷ l) m = if sameBytes (ascii (s .mnemonic)) m then number (s .name) else numberIn l m
-
-abbrev named : Instruction → Bool
-named i = eqb (numberIn syntaxes (ascii (syntaxOf i .mnemonic))) (number i) && free 32 (ascii (syntaxOf i .mnemonic))
-
-all-named : (i : Instruction) → T (named i)
-unfolding syntaxOf
-all-named = every named tt
-
-module _ (i : Instruction) where
-  abbrev mnemonic : List ℕ
-  mnemonic = ascii (syntaxOf i .mnemonic)
-
-  mnemonic-number : numberIn syntaxes mnemonic ≡ number i
-  mnemonic-number = eqb-true (numberIn syntaxes mnemonic) (number i) (truth (eqb (numberIn syntaxes mnemonic) (number i)) (and-left (eqb (numberIn syntaxes mnemonic) (number i)) (free 32 mnemonic) (all-named i)))
-
-  mnemonic-free : free 32 mnemonic ≡ true
-  mnemonic-free = truth (free 32 mnemonic) (and-right (eqb (numberIn syntaxes mnemonic) (number i)) (free 32 mnemonic) (all-named i))
-
-mnemonic-tells : (i j : Instruction) → mnemonic i ≡ mnemonic j → i ≡ j
-mnemonic-tells i j e =
-    sym (numbered i) ∙ ap (nameAt table) (sym (mnemonic-number i) ∙ ap (numberIn syntaxes) e ∙ mnemonic-number j) ∙ numbered j
-
--- ---- a row's operands are of the fields that it names, and of no other: a test of all rows, with a number for each field
-
-abbrev fieldNumber : Operand → ℕ
-fieldNumber Rs = 0
-fieldNumber Rt = 1
-fieldNumber Rd = 2
-fieldNumber Sa = 3
-fieldNumber Imm = 4
-fieldNumber Uimm = 4
-fieldNumber Iindex = 5
-
--- a field is among operands
-abbrev shows : ℕ → List Operand → Bool
-shows n [] = false
-shows n (o ∷ l) = eqb n (fieldNumber o) || shows n l
-
-record AllShown (i : Instruction) : Type 0 where
-  shown-rs : namesRs i ≡ shows 0 (syntaxOf i .operands)
-  shown-rt : namesRt i ≡ shows 1 (syntaxOf i .operands)
-  shown-rd : namesRd i ≡ shows 2 (syntaxOf i .operands)
-  shown-sa : namesSa i ≡ shows 3 (syntaxOf i .operands)
-  shown-imm : namesImm i ≡ shows 4 (syntaxOf i .operands)
-  shown-iindex : namesIindex i ≡ shows 5 (syntaxOf i .operands)
-
-abbrev shownAt : (Instruction → Bool) → ℕ → Instruction → Bool
-shownAt p n i = same (p i) (shows n (syntaxOf i .operands))
-
-shown-at : (p : Instruction → Bool) (n : ℕ) → T (everywhere (shownAt p n) table) → (i : Instruction) → p i ≡ shows n (syntaxOf i .operands)
-shown-at p n t i = same-eq (p i) (shows n (syntaxOf i .operands)) (every (shownAt p n) t i)
-
-all-shown : (i : Instruction) → AllShown i
-unfolding syntaxOf namesRs namesRt namesRd namesSa namesImm namesIindex
-all-shown i =
-    record {
-      shown-rs = shown-at namesRs 0 tt i;
-      shown-rt = shown-at namesRt 1 tt i;
-      shown-rd = shown-at namesRd 2 tt i;
-      shown-sa = shown-at namesSa 3 tt i;
-      shown-imm = shown-at namesImm 4 tt i;
-      shown-iindex = shown-at namesIindex 5 tt i;
-    }
 
 -- ---- words that are equal in each operand's field are equal in a field that is among them
 

@@ -1,3 +1,2 @@
 pub mod Disassembly
-pub mod Named
 pub mod inner

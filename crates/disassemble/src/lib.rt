@@ -1,38 +1,17 @@
 // The text of an instruction word, for a debugger (specs/Disassembly.antt).
-mod forms;
-mod mnemonics;
-
 use decode::fields;
+use forms::Form;
+use forms::Operand;
+use forms::OperandList;
 ghost use mathlib.Core.Path.{_≡_};
 ghost use mathlib.Core.List.{_++_};
 ghost use Prim.Native.Nat.{_+_, _≤_, _<_, _^_, _-_};
 ghost use lib.ListN.{length, take, replicate};
 ghost use Rattle.word.specs.Word.{signed};
 ghost use Rattle.text.specs.Text.{Put};
+ghost use Rattle.forms.specs.inner.Forms.{letters, asList};
 ghost use Rattle.disassemble.specs.Disassembly.{registerText, integerText, fieldOf, shownAs, operandText, operandsText, disassembleOn, disassembledNumber};
-ghost use Rattle.disassemble.specs.inner.Forms.{letters, asList, formText};
-
-// What an instruction's syntax names: a register, the shift amount, the immediate, signed or unsigned, or the jump index.
-enum Operand {
-    Rs,
-    Rt,
-    Rd,
-    Sa,
-    Imm,
-    Uimm,
-    Iindex,
-}
-
-// Up to three of them, in the order in which they are shown.
-enum OperandList {
-    None,
-    One(Operand),
-    Two(Operand, Operand),
-    Three(Operand, Operand, Operand),
-}
-
-// How an instruction is shown: its mnemonic, filled up with zeros to six bytes, and its operands.
-struct Form([u8; 6], OperandList);
+ghost use Rattle.disassemble.specs.inner.Texts.{formText};
 
 // The length of the text, or the number of a refusal.
 pub enum Disassembled {
@@ -153,7 +132,7 @@ pub fn disassemble(w: u32, text: &mut [u8]) -> Disassembled
     if text.len() != 32 {
         return Disassembled::Refused(17);
     }
-    let n = put_form(text, forms::form(w), w);
+    let n = put_form(text, forms::form_of(w), w);
     clear(text, n);
     Disassembled::Length(n as u32)
 }

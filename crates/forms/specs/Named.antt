@@ -1,6 +1,6 @@
 -- Which rows of tables 1 to 4 name a field in their assembler syntax, field by field. It is read from the tables by
--- itself, apart from the operands that specs/Disassembly has for a text: a text that leaves a field out, in its
--- definition and in the code alike, would break the law that is stated with it (`text-tells` of proofs/Telling).
+-- itself, apart from the operands of specs/Syntax: a row that leaves a field out, in its definition and in the code
+-- alike, would break the law that holds the one against the other (`all-shown` of proofs/Named).
 -- Assumes nothing.
 use mathlib.Core.Path.{_≡_}
 use mathlib.Core.Bool.{Bool, true, _||_}
