@@ -20,7 +20,8 @@ ghost use Rattle.decode.specs.Table.{decoded, rowOf};
 ghost use Rattle.forms.specs.Syntax.{syntaxOf};
 ghost use Rattle.forms.specs.inner.Forms.{formOf};
 
-// What an instruction's syntax names: a register, the shift amount, the immediate, signed or unsigned, or the jump index.
+// What an instruction's syntax names: a register, the shift amount, the immediate, signed or unsigned, or the jump
+// index.
 pub enum Operand {
     Rs,
     Rt,
