@@ -1,70 +1,35 @@
--- What holds of the syntax of every row: each is a test that is computed on all rows.
+-- The text of every row: that of its form, and how long it is, which is a test that is computed on all rows.
 -- Assumes nothing.
 use mathlib.Core.Path.{_≡_, refl}
-use mathlib.Core.Bool.{Bool, true, false, _&&_}
+use mathlib.Core.Bool.{Bool}
 use mathlib.Core.Logic.{⊎-elim}
-use mathlib.Core.List.{List, [], _∷_, map}
+use mathlib.Core.List.{List, [], _∷_}
 use Prim.Native.Nat.{ℕ, suc, _+_, _-_, _≤_, _<_, _^_}
 use native.Mathlib.Omega.{arith}
-use lib.Dec.{T, eqb, leb}
+use lib.Dec.{T, leb}
 use lib.ListN.{length, length-append}
-use borrow.Author.Tests.{eqb-true, leb-true, lt-ltb, le-ltb}
+use borrow.Author.Tests.{leb-true, lt-ltb, le-ltb}
 use Rattle.word.specs.Word.{signed}
-use Rattle.word.proofs.Tests.{truth, and-left, and-right}
+use Rattle.word.proofs.Tests.{truth}
 use Rattle.word.proofs.Laws.{sub-neg, side}
 use Rattle.text.specs.Text.{ascii, decimal}
 use Rattle.text.proofs.Decimals.{decimal-short}
 use Rattle.decode.specs.declared.Instruction.{Instruction}
 use Rattle.decode.specs.Fields.{rs, rt, rd, sa, imm, iindex}
-use Rattle.decode.specs.Table.{Row, table, decoded}
+use Rattle.decode.specs.Table.{decoded}
 use Rattle.decode.proofs.Numbers.{every}
-use Rattle.disassemble.specs.declared.Operand.{Operand}
-use Rattle.disassemble.specs.declared.Operand.the-variants.{Rs, Rt, Rd, Sa, Imm, Uimm, Iindex}
-use Rattle.disassemble.specs.Disassembly.{Syntax, syntaxes, syntaxOf, integerText, operandText, operandsText, textFor, disassembly}
-use Rattle.disassemble.specs.inner.Forms.{firstThree, asList, formOf, letters, formText}
+use Rattle.forms.specs.declared.Operand.{Operand}
+use Rattle.forms.specs.declared.Operand.the-variants.{Rs, Rt, Rd, Sa, Imm, Uimm, Iindex}
+use Rattle.forms.specs.Syntax.{Syntax, syntaxOf}
+use Rattle.forms.specs.inner.Forms.{formOf}
+use Rattle.forms.proofs.Rows.{form-row}
+use Rattle.disassemble.specs.Disassembly.{integerText, operandText, operandsText, textFor, disassembly}
+use Rattle.disassemble.specs.inner.Texts.{formText}
 
--- the column has the rows of tables 1 to 4, in their order
-pub every-row : map (λ (s : Syntax). s .name) syntaxes ≡ map (λ (r : Row). r .name) table
-every-row = refl
-
--- ---- lists of bytes, compared
-
-abbrev pub sameBytes : List ℕ → List ℕ → Bool
-sameBytes [] [] = true
-sameBytes [] (y ∷ l) = false
-sameBytes (x ∷ k) [] = false
-sameBytes (x ∷ k) (y ∷ l) = eqb x y && sameBytes k l
-
-pub same-bytes : (k l : List ℕ) → T (sameBytes k l) → k ≡ l
-same-bytes [] [] t = refl
-same-bytes [] (y ∷ l) t = absurd t
-same-bytes (x ∷ k) [] t = absurd t
-same-bytes (x ∷ k) (y ∷ l) t =
-    let e : x ≡ y = eqb-true x y (truth (eqb x y) (and-left (eqb x y) (sameBytes k l) t)) in
-    rw (e, same-bytes k l (and-right (eqb x y) (sameBytes k l) t)) refl
-
--- ---- the form that the code has is the row's
-
-abbrev formed : Instruction → Bool
-formed i = sameBytes (letters (formOf (syntaxOf i) .0)) (ascii (syntaxOf i .mnemonic)) && leb (length (syntaxOf i .operands)) 3
-
-all-formed : (i : Instruction) → T (formed i)
-unfolding syntaxOf formOf letters
-all-formed = every formed tt
-
-three : (l : List Operand) → length l ≤ 3 → asList (firstThree l) ≡ l
-three [] h = refl
-three (a ∷ []) h = refl
-three (a ∷ b ∷ []) h = refl
-three (a ∷ b ∷ c ∷ []) h = refl
-three (a ∷ b ∷ c ∷ d ∷ l) h = absurd (omega arith)
-
+-- the text of the form that the code has is the row's
 pub form-text : (i : Instruction) (w : ℕ) → formText (formOf (syntaxOf i)) w ≡ textFor (syntaxOf i) w
-unfolding formText textFor formOf
-form-text i w =
-    let s : Bool = sameBytes (letters (formOf (syntaxOf i) .0)) (ascii (syntaxOf i .mnemonic)) in
-    let n : Bool = leb (length (syntaxOf i .operands)) 3 in
-    rw (same-bytes (letters (formOf (syntaxOf i) .0)) (ascii (syntaxOf i .mnemonic)) (and-left s n (all-formed i)), three (syntaxOf i .operands) (leb-true (length (syntaxOf i .operands)) 3 (truth n (and-right s n (all-formed i))))) refl
+unfolding formText textFor
+form-text i w = rw (form-row i .0, form-row i .1) refl
 
 -- ---- no text is longer than 20 bytes
 

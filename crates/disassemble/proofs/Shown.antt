@@ -1,4 +1,4 @@
--- What the code writes, part by part: the form of a row, a mnemonic up to its first zero, an operand, and zeros behind.
+-- What the code writes, part by part: a mnemonic up to its first zero, an operand, and zeros behind.
 -- Assumes nothing.
 use mathlib.Core.Path.{_≡_, refl, sym, ap, _∙_}
 use mathlib.Core.List.{List, [], _∷_, _++_, append-nil}
@@ -7,17 +7,12 @@ use native.Mathlib.Omega.{arith}
 use lib.ListN.{length, take, getD, set, replicate, length-append, replicate-append-replicate}
 use lib.Seq.{take-all}
 use Rattle.text.specs.Text.{Put}
-use Rattle.text.proofs.Texts.{none, one-more, then-byte, reworded}
-use Rattle.decode.specs.declared.Instruction.{Instruction}
-use Rattle.disassemble.specs.declared.Operand.{Operand}
-use Rattle.disassemble.specs.declared.OperandList.{OperandList}
-use Rattle.disassemble.specs.declared.OperandList.the-variants.{None, One, Two, Three}
-use Rattle.disassemble.specs.Disassembly.{syntaxOf, fieldOf, shownAs, operandText, operandsText}
-use Rattle.disassemble.specs.inner.Forms.{asList, formOf, letters}
-
--- the form of a row that a match has found
-pub shown : {i j : Instruction} → i ≡ j → formOf (syntaxOf i) ≡ formOf (syntaxOf j)
-shown e = ap (λ (i : Instruction). formOf (syntaxOf i)) e
+use Rattle.text.proofs.Texts.{one-more, then-byte, reworded, nothing}
+use Rattle.forms.specs.declared.Operand.{Operand}
+use Rattle.forms.specs.declared.OperandList.{OperandList}
+use Rattle.forms.specs.declared.OperandList.the-variants.{None, One, Two, Three}
+use Rattle.forms.specs.inner.Forms.{asList, letters}
+use Rattle.disassemble.specs.Disassembly.{fieldOf, shownAs, operandText, operandsText}
 
 -- ---- a mnemonic
 
@@ -53,8 +48,6 @@ letter-more b t i c p h k =
     rw (e, f) at (one-more b 0 t i c (rw e p) h (omega arith))
 
 -- no text
-pub nothing : (b : List ℕ) (at : ℕ) → Put b at [] at b
-nothing b at = let e : at + 0 ≡ at = omega arith in rw e at (none b at)
 
 -- ---- operands
 

@@ -1,31 +1,34 @@
--- A text tells the row and every field that the row names: it comes apart at its blanks, no two rows have the same mnemonic, and each way in which a field is
--- shown tells the field.
+-- A text tells the row and every field that the row names: it comes apart at its blanks, no two rows have the same
+-- mnemonic, each field that a row names is shown, and each way in which a field is shown tells the field.
 -- Assumes nothing.
 use mathlib.Core.Path.{_≡_, refl, sym, ap, _∙_}
-use mathlib.Core.Bool.{Bool, true, false, not, _&&_}
+use mathlib.Core.Bool.{Bool, true, false, not, _&&_, _||_}
 use mathlib.Core.Logic.{⊎-elim}
 use mathlib.Core.List.{List, [], _∷_, _++_}
 use Prim.Native.Nat.{ℕ, _+_, _-_, _≤_, _<_, _^_}
 use native.Mathlib.Nat.{mod-eq-of-lt}
 use native.Mathlib.Omega.{arith}
-use lib.Dec.{T, eqb}
+use lib.Dec.{eqb}
 use lib.IntN.{ℤ, pos, negsuc}
+use lib.ListN.{getD}
 use borrow.Author.Tests.{eqb-true}
 use Rattle.word.specs.Word.{if_then_else_, signed, twoc}
-use Rattle.word.proofs.Tests.{truth, true-false, and-left, and-right}
+use Rattle.word.proofs.Tests.{true-false}
 use Rattle.word.proofs.Truth.{and-right as second}
 use Rattle.word.proofs.Laws.{side}
-use Rattle.text.specs.Text.{ascii, decimal}
+use Rattle.text.specs.Text.{decimal}
 use Rattle.text.proofs.Decimals.{free, decimal-free, valueFrom, decimal-value, decimal-tells}
 use Rattle.decode.specs.declared.Instruction.{Instruction}
 use Rattle.decode.specs.Fields.{rs, rt, rd, sa, imm, iindex}
-use Rattle.decode.specs.Table.{table, decoded}
-use Rattle.decode.specs.Mnemonics.{number}
-use Rattle.decode.proofs.Numbers.{nameAt, numbered, every}
-use Rattle.disassemble.specs.declared.Operand.{Operand}
-use Rattle.disassemble.specs.declared.Operand.the-variants.{Rs, Rt, Rd, Sa, Imm, Uimm, Iindex}
-use Rattle.disassemble.specs.Disassembly.{Syntax, syntaxes, syntaxOf, integerText, fieldOf, shownAs, operandText, operandsText, SameFields, textFor, disassembly}
-use Rattle.disassemble.proofs.Rows.{sameBytes, signed-low, signed-high}
+use Rattle.decode.specs.Table.{decoded}
+use Rattle.forms.specs.declared.Operand.{Operand}
+use Rattle.forms.specs.declared.Operand.the-variants.{Rs, Rt, Rd, Sa, Imm, Uimm, Iindex}
+use Rattle.forms.specs.Syntax.{syntaxOf}
+use Rattle.forms.specs.Named.{SameNamed}
+use Rattle.forms.proofs.Rows.{mnemonic, mnemonic-free, mnemonic-tells}
+use Rattle.forms.proofs.Named.{fieldNumber, shows, AllShown, all-shown}
+use Rattle.disassemble.specs.Disassembly.{integerText, fieldOf, shownAs, operandText, operandsText, textFor, disassembly}
+use Rattle.disassemble.proofs.Rows.{signed-low, signed-high}
 
 -- ---- a text comes apart at its blanks
 
@@ -118,6 +121,11 @@ unfolding operandText
 operands-parted [] w = refl
 operands-parted (o ∷ l) w = refl
 
+-- two words are equal in every field that operands name
+abbrev SameFields : List Operand → ℕ → ℕ → Type 0
+SameFields [] v w = Unit {0}
+SameFields (o ∷ l) v w = (fieldOf o v ≡ fieldOf o w) × SameFields l v w
+
 operands-tell : (l : List Operand) (v w : ℕ) → operandsText l v ≡ operandsText l w → SameFields l v w
 unfolding operandText
 operands-tell [] v w e = tt
@@ -127,40 +135,46 @@ operands-tell (o ∷ l) v w e =
     (ap rest e) in
     (shown-tells o v w (s .0), operands-tell l v w (s .1))
 
--- ---- mnemonics
+-- ---- words that are equal in each operand's field are equal in a field that is among them
 
--- the number of the row with a mnemonic
-abbrev numberIn : List Syntax → List ℕ → ℕ
-numberIn [] m = 61
-numberIn (s ∷ l) m = if sameBytes (ascii (s .mnemonic)) m then number (s .name) else numberIn l m
+abbrev fieldAt : ℕ → ℕ → ℕ
+fieldAt n w = getD (rs w ∷ rt w ∷ rd w ∷ sa w ∷ imm w ∷ iindex w ∷ []) n 0
 
-abbrev named : Instruction → Bool
-named i = eqb (numberIn syntaxes (ascii (syntaxOf i .mnemonic))) (number i) && free 32 (ascii (syntaxOf i .mnemonic))
+field-at : (o : Operand) (w : ℕ) → fieldOf o w ≡ fieldAt (fieldNumber o) w
+field-at Rs w = refl
+field-at Rt w = refl
+field-at Rd w = refl
+field-at Sa w = refl
+field-at Imm w = refl
+field-at Uimm w = refl
+field-at Iindex w = refl
 
-all-named : (i : Instruction) → T (named i)
-unfolding syntaxOf
-all-named = every named tt
-
-module _ (i : Instruction) where
-  abbrev mnemonic : List ℕ
-  mnemonic = ascii (syntaxOf i .mnemonic)
-
-  mnemonic-number : numberIn syntaxes mnemonic ≡ number i
-  mnemonic-number = eqb-true (numberIn syntaxes mnemonic) (number i) (truth (eqb (numberIn syntaxes mnemonic) (number i)) (and-left (eqb (numberIn syntaxes mnemonic) (number i)) (free 32 mnemonic) (all-named i)))
-
-  mnemonic-free : free 32 mnemonic ≡ true
-  mnemonic-free = truth (free 32 mnemonic) (and-right (eqb (numberIn syntaxes mnemonic) (number i)) (free 32 mnemonic) (all-named i))
-
-mnemonic-tells : (i j : Instruction) → mnemonic i ≡ mnemonic j → i ≡ j
-mnemonic-tells i j e =
-    sym (numbered i) ∙ ap (nameAt table) (sym (mnemonic-number i) ∙ ap (numberIn syntaxes) e ∙ mnemonic-number j) ∙ numbered j
+same-shown : (n : ℕ) (l : List Operand) (v w : ℕ) → SameFields l v w → shows n l ≡ true → fieldAt n v ≡ fieldAt n w
+same-shown n [] v w s e = absurd (true-false (sym e))
+same-shown n (o ∷ l) v w s e = go (eqb n (fieldNumber o)) refl e (same-shown n l v w (s .1))
+  where
+    go : (b : Bool) → eqb n (fieldNumber o) ≡ b → b || shows n l ≡ true → (shows n l ≡ true → fieldAt n v ≡ fieldAt n w) → fieldAt n v ≡ fieldAt n w
+    go true q h r = let z : n ≡ fieldNumber o = eqb-true n (fieldNumber o) q in rw z (sym (field-at o v) ∙ s .0 ∙ field-at o w)
+    go false q h r = r h
 
 -- ---- the law: words with the same text are of the same row, or both illegal, and equal in every field that the row names
-pub text-tells : (v w : ℕ) → disassembly v ≡ disassembly w → (decoded v ≡ decoded w) × SameFields (syntaxOf (decoded v) .operands) v w
+pub text-tells : (v w : ℕ) → disassembly v ≡ disassembly w → (decoded v ≡ decoded w) × SameNamed (decoded v) v w
 unfolding disassembly textFor
 text-tells v w e =
     let s : (mnemonic (decoded v) ≡ mnemonic (decoded w)) × (operandsText (syntaxOf (decoded v) .operands) v ≡ operandsText (syntaxOf (decoded w) .operands) w) =
     first-word (mnemonic (decoded v)) (mnemonic (decoded w)) (operandsText (syntaxOf (decoded v) .operands) v) (operandsText (syntaxOf (decoded w) .operands) w)
     (mnemonic-free (decoded v)) (mnemonic-free (decoded w)) (operands-parted (syntaxOf (decoded v) .operands) v) (operands-parted (syntaxOf (decoded w) .operands) w) e in
     let i : decoded v ≡ decoded w = mnemonic-tells (decoded v) (decoded w) (s .0) in
-    (i, operands-tell (syntaxOf (decoded v) .operands) v w (s .1 ∙ ap (λ (j : Instruction). operandsText (syntaxOf j .operands) w) (sym i)))
+    let f : SameFields (syntaxOf (decoded v) .operands) v w =
+    operands-tell (syntaxOf (decoded v) .operands) v w (s .1 ∙ ap (λ (j : Instruction). operandsText (syntaxOf j .operands) w) (sym i)) in
+    let c : AllShown (decoded v) = all-shown (decoded v) in (
+      i,
+      record {
+        same-rs = λ z. same-shown 0 (syntaxOf (decoded v) .operands) v w f (sym (c .shown-rs) ∙ z);
+        same-rt = λ z. same-shown 1 (syntaxOf (decoded v) .operands) v w f (sym (c .shown-rt) ∙ z);
+        same-rd = λ z. same-shown 2 (syntaxOf (decoded v) .operands) v w f (sym (c .shown-rd) ∙ z);
+        same-sa = λ z. same-shown 3 (syntaxOf (decoded v) .operands) v w f (sym (c .shown-sa) ∙ z);
+        same-imm = λ z. same-shown 4 (syntaxOf (decoded v) .operands) v w f (sym (c .shown-imm) ∙ z);
+        same-iindex = λ z. same-shown 5 (syntaxOf (decoded v) .operands) v w f (sym (c .shown-iindex) ∙ z);
+      },
+    )

@@ -1,38 +1,17 @@
 // The text of an instruction word, for a debugger (specs/Disassembly.antt).
-mod forms;
-mod mnemonics;
-
 use decode::fields;
+use forms::Form;
+use forms::Operand;
+use forms::OperandList;
 ghost use mathlib.Core.Path.{_≡_};
 ghost use mathlib.Core.List.{_++_};
 ghost use Prim.Native.Nat.{_+_, _≤_, _<_, _^_, _-_};
 ghost use lib.ListN.{length, take, replicate};
 ghost use Rattle.word.specs.Word.{signed};
 ghost use Rattle.text.specs.Text.{Put};
-ghost use Rattle.disassemble.specs.Disassembly as d;
-ghost use Rattle.disassemble.specs.inner.Forms.{letters, asList, formText};
-
-// What an instruction's syntax names: a register, the shift amount, the immediate, signed or unsigned, or the jump index.
-enum Operand {
-    Rs,
-    Rt,
-    Rd,
-    Sa,
-    Imm,
-    Uimm,
-    Iindex,
-}
-
-// Up to three of them, in the order in which they are shown.
-enum OperandList {
-    None,
-    One(Operand),
-    Two(Operand, Operand),
-    Three(Operand, Operand, Operand),
-}
-
-// How an instruction is shown: its mnemonic, filled up with zeros to six bytes, and its operands.
-struct Form([u8; 6], OperandList);
+ghost use Rattle.forms.specs.inner.Forms.{letters, asList};
+ghost use Rattle.disassemble.specs.Disassembly.{registerText, integerText, fieldOf, shownAs, operandText, operandsText, disassembleOn, disassembledNumber};
+ghost use Rattle.disassemble.specs.inner.Texts.{formText};
 
 // The length of the text, or the number of a refusal.
 pub enum Disassembled {
@@ -58,8 +37,8 @@ fn put_mnemonic(text: &mut [u8], mnemonic: &[u8]) -> usize
 
 // A register's number after an r.
 fn put_register(text: &mut [u8], at: usize, n: u32) -> usize
-    requires { ⌜ at + length (d.registerText n) ≤ length (now text) ⌝ }
-    ensures { λ r. ⌜ Put (now (text .entry)) at (d.registerText n) r (now (text .exit)) ⌝ }
+    requires { ⌜ at + length (registerText n) ≤ length (now text) ⌝ }
+    ensures { λ r. ⌜ Put (now (text .entry)) at (registerText n) r (now (text .exit)) ⌝ }
 {
     let p = text::put_byte(text, at, b'r');
     text::put_decimal(text, p, n as u64)
@@ -67,8 +46,8 @@ fn put_register(text: &mut [u8], at: usize, n: u32) -> usize
 
 // A word of 16 bits as an integer in two's complement.
 fn put_signed(text: &mut [u8], at: usize, x: u32) -> usize
-    requires { ⌜ (x < 2 ^ 16) × (at + length (d.integerText (signed 16 x)) ≤ length (now text)) ⌝ }
-    ensures { λ r. ⌜ Put (now (text .entry)) at (d.integerText (signed 16 x)) r (now (text .exit)) ⌝ }
+    requires { ⌜ (x < 2 ^ 16) × (at + length (integerText (signed 16 x)) ≤ length (now text)) ⌝ }
+    ensures { λ r. ⌜ Put (now (text .entry)) at (integerText (signed 16 x)) r (now (text .exit)) ⌝ }
 {
     if x < 0x8000 {
         return text::put_decimal(text, at, x as u64);
@@ -79,8 +58,8 @@ fn put_signed(text: &mut [u8], at: usize, x: u32) -> usize
 
 // What an operand shows of a word.
 fn put_shown(text: &mut [u8], at: usize, o: Operand, w: u32) -> usize
-    requires { ⌜ at + length (d.shownAs o (d.fieldOf o w)) ≤ length (now text) ⌝ }
-    ensures { λ r. ⌜ Put (now (text .entry)) at (d.shownAs o (d.fieldOf o w)) r (now (text .exit)) ⌝ }
+    requires { ⌜ at + length (shownAs o (fieldOf o w)) ≤ length (now text) ⌝ }
+    ensures { λ r. ⌜ Put (now (text .entry)) at (shownAs o (fieldOf o w)) r (now (text .exit)) ⌝ }
 {
     match o {
         Operand::Rs => put_register(text, at, fields::rs(w)),
@@ -95,16 +74,16 @@ fn put_shown(text: &mut [u8], at: usize, o: Operand, w: u32) -> usize
 
 // An operand after its blank.
 fn put_operand(text: &mut [u8], at: usize, o: Operand, w: u32) -> usize
-    requires { ⌜ at + length (d.operandText o w) ≤ length (now text) ⌝ }
-    ensures { λ r. ⌜ Put (now (text .entry)) at (d.operandText o w) r (now (text .exit)) ⌝ }
+    requires { ⌜ at + length (operandText o w) ≤ length (now text) ⌝ }
+    ensures { λ r. ⌜ Put (now (text .entry)) at (operandText o w) r (now (text .exit)) ⌝ }
 {
     let p = text::put_byte(text, at, b' ');
     put_shown(text, p, o, w)
 }
 
 fn put_operands(text: &mut [u8], at: usize, l: OperandList, w: u32) -> usize
-    requires { ⌜ at + length (d.operandsText (asList l) w) ≤ length (now text) ⌝ }
-    ensures { λ r. ⌜ Put (now (text .entry)) at (d.operandsText (asList l) w) r (now (text .exit)) ⌝ }
+    requires { ⌜ at + length (operandsText (asList l) w) ≤ length (now text) ⌝ }
+    ensures { λ r. ⌜ Put (now (text .entry)) at (operandsText (asList l) w) r (now (text .exit)) ⌝ }
 {
     match l {
         OperandList::None => at,
@@ -146,13 +125,14 @@ fn clear(text: &mut [u8], from: usize)
 
 // Puts the text of a word into 32 bytes, zero beyond it, and answers its length. Refused if the bytes lent are not 32 (17).
 pub fn disassemble(w: u32, text: &mut [u8]) -> Disassembled
-    ensures { λ r. ⌜ r ≡ d.disassembleOn w (now (text .entry)) .answer ⌝ }
-    ensures { λ _. ⌜ now (text .exit) ≡ d.disassembleOn w (now (text .entry)) .bytes ⌝ }
+    ensures { λ r. ⌜ r ≡ disassembleOn w (now (text .entry)) .answer ⌝ }
+    ensures { λ _. ⌜ now (text .exit) ≡ disassembleOn w (now (text .entry)) .bytes ⌝ }
+    ensures { λ r. ⌜ disassembledNumber r ≡ disassembledNumber (disassembleOn w (now (text .entry)) .answer) ⌝ }
 {
     if text.len() != 32 {
         return Disassembled::Refused(17);
     }
-    let n = put_form(text, forms::form(w), w);
+    let n = put_form(text, forms::form_of(w), w);
     clear(text, n);
     Disassembled::Length(n as u32)
 }

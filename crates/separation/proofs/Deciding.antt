@@ -3,7 +3,7 @@
 use mathlib.Core.Path.{_≡_, refl, sym, ap, ap₂, subst, _∙_}
 use mathlib.Core.Bool.{Bool, true, false, _&&_, _||_, not}
 use mathlib.Core.List.{List, [], _∷_, _++_}
-use Prim.Native.Nat.{ℕ, _+_, _<_, _≤_}
+use Prim.Native.Nat.{ℕ, zero, suc, _+_, _<_, _≤_}
 use native.Mathlib.Numerals.{add-one}
 use native.Mathlib.Omega.{arith}
 use native.Mathlib.Decide.{ℕ-discrete}
@@ -23,7 +23,7 @@ use Rattle.word.proofs.Bits.{bit-same, bit-other}
 use Rattle.reach.specs.Lists.{range, has, select}
 use Rattle.reach.specs.Reach.{Pages, isGroup, members, tablePages, reached, reach, inMemory, mapByte, mapFor}
 use Rattle.reach.proofs.Lists.{In, in-right, in-range, range-in, all-in, in-all, all-append, both-ways, has-append, select-same}
-use Rattle.separation.specs.Apart.{runningCores, rest, runsAsUser, disjoint, closed, pagesApart, apart, apartOn}
+use Rattle.separation.specs.Apart.{runningCores, rest, restBelow, restGroup, runsAsUser, disjoint, closed, pagesApart, apart, apartOn}
 use Rattle.separation.specs.declared.Verdict.the-variants.{Yes, No, Refused}
 use Rattle.separation.specs.inner.Sides.{passes, both, pageApart}
 use Rattle.separation.proofs.Mapped.{marked-is, byte-in, byte-table, byte-writable, reached-low}
@@ -81,10 +81,10 @@ abbrev pub isOther : ℕ → List ℕ → ℕ → Bool
 isOther g t j = not (isSet g j) && runs (block t j)
 
 -- a number whose bits up to k say which of the first k cores are other running cores
-pub record Others (g : ℕ) (t : List ℕ) (r k : ℕ) : Type 0 where
-  pub bits : (j : ℕ) → j < k → isSet r j ≡ isOther g t j
+record Others (g : ℕ) (t : List ℕ) (r k : ℕ) : Type 0 where
+  bits : (j : ℕ) → j < k → isSet r j ≡ isOther g t j
 
-pub others-none : (g : ℕ) (t : List ℕ) (r : ℕ) → Others g t r 0
+others-none : (g : ℕ) (t : List ℕ) (r : ℕ) → Others g t r 0
 others-none g t r = record { bits = λ j h. absurd (omega arith) }
 
 flag-small : (b : Bool) → flag b < 2
@@ -95,7 +95,7 @@ flag-bit : (b : Bool) → eqb (flag b) 1 ≡ b
 flag-bit true = refl
 flag-bit false = refl
 
-pub others-next : (g : ℕ) (t : List ℕ) (r k : ℕ) → Others g t r k → Others g t (withBit r k (flag (isOther g t k))) (k + 1)
+others-next : (g : ℕ) (t : List ℕ) (r k : ℕ) → Others g t r k → Others g t (withBit r k (flag (isOther g t k))) (k + 1)
 others-next g t r k o =
     record {
       bits = λ j h. either (ℕ-discrete j k)
@@ -113,14 +113,22 @@ byte-flag true = refl
 byte-flag false = refl
 
 -- the bit that the code puts
-pub others-put : {g : ℕ} {t : List ℕ} {r k s : ℕ} {i u : Bool} → i ≡ isSet g k → u ≡ runs (block t k) → s ≡ withBit r k (boolByte (not i && u)) → Others g t r k → Others g t s (k + 1)
-others-put {g} {t} {r} {k} {s} {i} {u} p q e o =
-    subst (λ (n : ℕ). Others g t n (k + 1)) (sym (e ∙ ap (withBit r k) (byte-flag (not i && u) ∙ ap₂ (λ (a b : Bool). flag (not a && b)) p q))) (others-next g t r k o)
+pub rest-put : (g : ℕ) (t : List ℕ) (k : ℕ) {r s : ℕ} {i u : Bool} → i ≡ isSet g k → u ≡ runs (block t k) → s ≡ withBit r k (boolByte (not i && u)) → r ≡ restBelow g t k
+    → s ≡ restBelow g t (k + 1)
+unfolding restBelow
+rest-put g t k {r} {s} {i} {u} p q e o =
+    e ∙ ap₂ (λ (n : ℕ) (x : ℕ). withBit n k x) o (byte-flag (not i && u) ∙ ap₂ (λ (a b : Bool). flag (not a && b)) p q) ∙ ap (restBelow g t) (sym (add-one k))
 
-pub others-all : (g : ℕ) (t : List ℕ) (r : ℕ) → Others g t r (coresOf t) → members r (coresOf t) ≡ rest g t
+others-below : (g : ℕ) (t : List ℕ) (k : ℕ) → Others g t (restBelow g t k) k
+unfolding restBelow
+others-below g t zero = others-none g t 0
+others-below g t (suc k) = subst (Others g t (restBelow g t (suc k))) (add-one k) (others-next g t (restBelow g t k) k (others-below g t k))
+
+-- the number has the rest as its members
+pub rest-members : (g : ℕ) (t : List ℕ) → members (restGroup g t) (coresOf t) ≡ rest g t
 unfolding members rest runningCores
-others-all g t r o =
-    select-same (λ j. isSet r j) (isOther g t) (range (coresOf t)) (λ j h. o .bits j (range-in (coresOf t) j h))
+rest-members g t =
+    select-same (λ j. isSet (restGroup g t) j) (isOther g t) (range (coresOf t)) (λ j h. others-below g t (coresOf t) .bits j (range-in (coresOf t) j h))
     ∙ sym (select-select (λ j. not (isSet g j)) (λ j. runs (block t j)) (range (coresOf t)))
 
 -- every core of both sides is running in user mode

@@ -2,9 +2,9 @@
 -- Assumes nothing.
 use mathlib.Core.Bool.{Bool, _&&_, not}
 use mathlib.Core.List.{List, _++_}
-use Prim.Native.Nat.{ℕ, _+_}
+use Prim.Native.Nat.{ℕ, zero, suc, _+_}
 use lib.ListN.{length}
-use Rattle.word.specs.Word.{if_then_else_, isSet}
+use Rattle.word.specs.Word.{if_then_else_, isSet, flag, withBit}
 use Rattle.layout.specs.Blocks.{block}
 use Rattle.records.specs.Records.{all}
 use Rattle.tables.specs.Views.{coresOf, pagesOf, userMode, runs}
@@ -21,6 +21,14 @@ runningCores t = select (λ k. runs (block t k)) (range (coresOf t))
 -- the rest: the other running cores
 unfoldable pub rest : ℕ → List ℕ → List ℕ
 rest g t = select (λ k. not (isSet g k)) (runningCores t)
+
+-- the same as a group, a number whose bit k stands for core k: of the first n cores, and of all
+unfoldable pub restBelow : ℕ → List ℕ → ℕ → ℕ
+restBelow g t zero = 0
+restBelow g t (suc k) = withBit (restBelow g t k) k (flag (not (isSet g k) && runs (block t k)))
+
+abbrev pub restGroup : ℕ → List ℕ → ℕ
+restGroup g t = restBelow g t (coresOf t)
 
 -- a core is running in user mode
 abbrev pub runsAsUser : List ℕ → ℕ → Bool

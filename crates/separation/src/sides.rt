@@ -8,7 +8,7 @@ ghost use Rattle.records.specs.Records.{all};
 ghost use Rattle.tables.specs.Views.{coresOf};
 ghost use Rattle.reach.specs.Lists.{range};
 ghost use Rattle.reach.specs.Reach.{members};
-ghost use Rattle.separation.specs.Apart as x;
+ghost use Rattle.separation.specs.Apart as apart;
 ghost use Rattle.separation.specs.inner.Sides as y;
 
 // Whether core k is of the group.
@@ -22,7 +22,8 @@ pub fn is_member(group: u32, k: u32) -> bool
 // The rest, as a group: the other running cores.
 pub fn rest(t: &[u32], group: u32) -> u32
     requires { ⌜ (coresOf (now t) ≤ 4) × (32 + 256 * coresOf (now t) ≤ length (now t)) ⌝ }
-    ensures { λ r. ⌜ members r (coresOf (now (t .entry))) ≡ x.rest group (now (t .entry)) ⌝ }
+    ensures { λ r. ⌜ r ≡ apart.restGroup group (now (t .entry)) ⌝ }
+    ensures { λ r. ⌜ members r (coresOf (now (t .entry))) ≡ apart.rest group (now (t .entry)) ⌝ }
 {
     let cores = t[CORES];
     let mut r: u32 = 0;

@@ -12,12 +12,17 @@ use Rattle.tables.specs.Views.{coresOf}
 use Rattle.tables.specs.Sound.{sound}
 use Rattle.translate.specs.declared.Translated.{Translated}
 use Rattle.translate.specs.declared.Translated.the-variants.{Done, Refused}
-use Rattle.translate.specs.Translate.{answersFor, readsFor, translateOn}
+use Rattle.translate.specs.Translate.{answersFor, readsFor, translateOn, translatedNumber, readsOf}
 
 module _ (k : ℕ) (l t m r : List ℕ) where
   -- an answer, and the words that are left
   abbrev pub Gives : Translated → List ℕ → Type 0
   Gives a o = (a ≡ translateOn k l t m r .answer) × (o ≡ translateOn k l t m r .words)
+
+  -- and so the numbers of the answer
+  pub numbered : {a : Translated} {o : List ℕ} → Gives a o
+      → (a ≡ translateOn k l t m r .answer) × ((o ≡ translateOn k l t m r .words) × ((translatedNumber a ≡ translatedNumber (translateOn k l t m r .answer)) × (readsOf a ≡ readsOf (translateOn k l t m r .answer))))
+  numbered g = (g .0, (g .1, (ap (λ (x : Translated). translatedNumber x) (g .0), ap (λ (x : Translated). readsOf x) (g .0))))
 
   pub unsound : sound t (length m) ≡ false → Gives (Refused 4) r
   unfolding translateOn

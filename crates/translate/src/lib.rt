@@ -11,7 +11,7 @@ ghost use Prim.Native.Nat.{_+_, _*_, _≤_};
 ghost use lib.ListN.{length};
 ghost use lib.Seq.{sets};
 ghost use Rattle.tlb.specs.Walks.{walkLevel};
-ghost use Rattle.translate.specs.Translate as x;
+ghost use Rattle.translate.specs.Translate.{leads, needs, translationWords, readsFor, answersFor, translateOn, translatedNumber, readsOf};
 ghost use Rattle.translate.specs.inner.Cache.{Cached, Asked};
 
 // Where an address leads: to a page with the rights of the last entry; to an entry that is absent, at a level; or to one beyond memory.
@@ -44,8 +44,8 @@ fn lead(
 ) -> Led
     requires { ⌜ Cached (now m) n (now keys) (now words) (now slots) ⌝ }
     requires { ⌜ (n ≤ 126) × (walkLevel start ≡ 2) ⌝ }
-    ensures { λ r. ⌜ r .to ≡ x.leads 2 (now (m .entry)) start ⌝ }
-    ensures { λ r. ⌜ Asked (now (m .entry)) (x.needs 2 (now (m .entry)) start) n (now (keys .entry)) (r .kept) (now (keys .exit)) (now (words .exit)) (now (slots .exit)) ⌝ }
+    ensures { λ r. ⌜ r .to ≡ leads 2 (now (m .entry)) start ⌝ }
+    ensures { λ r. ⌜ Asked (now (m .entry)) (needs 2 (now (m .entry)) start) n (now (keys .entry)) (r .kept) (now (keys .exit)) (now (words .exit)) (now (slots .exit)) ⌝ }
 {
     let mut w = start;
     let mut k = n;
@@ -88,7 +88,7 @@ fn put_three(answers: &mut [u32], at: usize, first: u32, second: u32, third: u32
 // Writes the three words of an answer.
 fn put(answers: &mut [u32], at: usize, to: Translation)
     requires { ⌜ at + 3 ≤ length (now answers) ⌝ }
-    ensures { λ _. ⌜ now (answers .exit) ≡ sets (now (answers .entry)) at (x.translationWords to) ⌝ }
+    ensures { λ _. ⌜ now (answers .exit) ≡ sets (now (answers .entry)) at (translationWords to) ⌝ }
 {
     match to {
         Translation::Mapped(page, rights) => put_three(answers, at, 0, page, rights),
@@ -109,8 +109,8 @@ fn each(
 ) -> usize
     requires { ⌜ (length (now b) ≡ 256) × (length (now addresses) ≤ 64) × (length (now answers) ≡ 3 * length (now addresses)) ⌝ }
     requires { ⌜ Cached (now m) 0 (now keys) (now words) (now slots) ⌝ }
-    ensures { λ r. ⌜ (r ≡ x.readsFor (now (b .entry)) (now (m .entry)) (now (addresses .entry))) × (r ≤ 128) ⌝ }
-    ensures { λ _. ⌜ now (answers .exit) ≡ x.answersFor (now (b .entry)) (now (m .entry)) (now (addresses .entry)) ⌝ }
+    ensures { λ r. ⌜ (r ≡ readsFor (now (b .entry)) (now (m .entry)) (now (addresses .entry))) × (r ≤ 128) ⌝ }
+    ensures { λ _. ⌜ now (answers .exit) ≡ answersFor (now (b .entry)) (now (m .entry)) (now (addresses .entry)) ⌝ }
 {
     let origin = tlb::origin(b);
     let asid = block::asid(b);
@@ -130,8 +130,8 @@ fn each(
 // The same, with the arrays in which the entries are kept: two for each address.
 fn fill(b: &[u32], m: &[u8], addresses: &[u32], answers: &mut [u32]) -> u32
     requires { ⌜ (length (now b) ≡ 256) × (length (now addresses) ≤ 64) × (length (now answers) ≡ 3 * length (now addresses)) ⌝ }
-    ensures { λ r. ⌜ r ≡ x.readsFor (now (b .entry)) (now (m .entry)) (now (addresses .entry)) ⌝ }
-    ensures { λ _. ⌜ now (answers .exit) ≡ x.answersFor (now (b .entry)) (now (m .entry)) (now (addresses .entry)) ⌝ }
+    ensures { λ r. ⌜ r ≡ readsFor (now (b .entry)) (now (m .entry)) (now (addresses .entry)) ⌝ }
+    ensures { λ _. ⌜ now (answers .exit) ≡ answersFor (now (b .entry)) (now (m .entry)) (now (addresses .entry)) ⌝ }
 {
     let mut keys = [0u32; 128];
     let mut words = [0u32; 128];
@@ -148,8 +148,10 @@ pub fn translate(
     addresses: &[u32],
     answers: &mut [u32],
 ) -> Translated
-    ensures { λ r. ⌜ r ≡ x.translateOn core (now (addresses .entry)) (now (t .entry)) (now (m .entry)) (now (answers .entry)) .answer ⌝ }
-    ensures { λ _. ⌜ now (answers .exit) ≡ x.translateOn core (now (addresses .entry)) (now (t .entry)) (now (m .entry)) (now (answers .entry)) .words ⌝ }
+    ensures { λ r. ⌜ r ≡ translateOn core (now (addresses .entry)) (now (t .entry)) (now (m .entry)) (now (answers .entry)) .answer ⌝ }
+    ensures { λ _. ⌜ now (answers .exit) ≡ translateOn core (now (addresses .entry)) (now (t .entry)) (now (m .entry)) (now (answers .entry)) .words ⌝ }
+    ensures { λ r. ⌜ translatedNumber r ≡ translatedNumber (translateOn core (now (addresses .entry)) (now (t .entry)) (now (m .entry)) (now (answers .entry)) .answer) ⌝ }
+    ensures { λ r. ⌜ readsOf r ≡ readsOf (translateOn core (now (addresses .entry)) (now (t .entry)) (now (m .entry)) (now (answers .entry)) .answer) ⌝ }
 {
     if !tables::sound(t, m.len()) {
         return Translated::Refused(4);

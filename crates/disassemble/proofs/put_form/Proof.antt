@@ -2,8 +2,9 @@ use native.Mathlib.Omega.{arith}
 use lib.ListN.{length-append}
 use borrow.Author.Needs.{needs}
 use Rattle.text.proofs.Texts.{follow}
+use Rattle.forms.specs.inner.Forms.{letters, asList}
 use Rattle.disassemble.specs.Disassembly.{operandsText}
-use Rattle.disassemble.specs.inner.Forms.{letters, asList, formText}
+use Rattle.disassemble.specs.inner.Texts.{formText}
 use Rattle.disassemble.proofs.put_form.Statement.{statement}
 use Rattle.disassemble.proofs.put_form.Tie as tie
 

@@ -3,7 +3,7 @@ use native.Mathlib.Omega.{arith}
 use lib.ListN.{length, take}
 use Rattle.text.specs.Text.{Put}
 use Rattle.text.proofs.Texts.{none, whole}
-use Rattle.disassemble.specs.inner.Forms.{letters}
+use Rattle.forms.specs.inner.Forms.{letters}
 use Rattle.disassemble.proofs.Shown.{letters-end, letters-zero, letters-next, letter-more}
 use Rattle.disassemble.proofs.put_mnemonic.Statement.{statement}
 use Rattle.disassemble.proofs.put_mnemonic.Tie as tie

@@ -2,8 +2,8 @@ use mathlib.Core.Path.{ap}
 use native.Mathlib.Omega.{arith}
 use lib.ListN.{length}
 use borrow.Author.Needs.{needs}
-use Rattle.text.proofs.Texts.{follow, reworded}
-use Rattle.disassemble.proofs.Shown.{none-text, one-text, two-text, three-text, two-length, three-length, nothing}
+use Rattle.text.proofs.Texts.{follow, reworded, nothing}
+use Rattle.disassemble.proofs.Shown.{none-text, one-text, two-text, three-text, two-length, three-length}
 use Rattle.disassemble.proofs.put_operands.Statement.{statement}
 use Rattle.disassemble.proofs.put_operands.Tie as tie
 

@@ -3,7 +3,7 @@ use native.Mathlib.Omega.{arith}
 use lib.ListN.{length}
 use borrow.Author.Needs.{needs}
 use Rattle.text.proofs.Texts.{reworded}
-use Rattle.disassemble.specs.declared.Operand.the-variants.{Rs, Rt, Rd, Sa, Imm, Uimm, Iindex}
+use Rattle.forms.specs.declared.Operand.the-variants.{Rs, Rt, Rd, Sa, Imm, Uimm, Iindex}
 use Rattle.disassemble.proofs.Shown.{as-shown}
 use Rattle.disassemble.proofs.put_shown.Statement.{statement}
 use Rattle.disassemble.proofs.put_shown.Tie as tie

@@ -22,7 +22,7 @@ same-length c = search needs
 returns : tie.Need-returns
 returns c =
     let r = c .before .before .before .disassemble .ensures in
-    (c .disassembled-number .ensures ∙ ap (λ a. disassembledNumber a) (r .0), r .1)
+    (c .disassembled-number .ensures ∙ ap (λ a. disassembledNumber a) (r .0), r .1 .0)
 
 pub mips86-disassemble-spec : {M : Type 1} → statement M
 mips86-disassemble-spec =

@@ -21,7 +21,7 @@ same-length : tie.Need-same-length
 same-length c = search needs
 
 returns : tie.Need-returns
-returns c = let r = c .before .before .before .before .translate .ensures in (c .translated-number .ensures ∙ ap (λ a. translatedNumber a) (r .0), (c .before .reads-number .ensures ∙ ap (λ a. readsOf a) (r .0), r .1))
+returns c = let r = c .before .before .before .before .translate .ensures in (c .translated-number .ensures ∙ ap (λ a. translatedNumber a) (r .0), (c .before .reads-number .ensures ∙ ap (λ a. readsOf a) (r .0), r .1 .0))
 
 pub mips86-translate-spec : {M : Type 1} → statement M
 mips86-translate-spec =

@@ -31,7 +31,7 @@ same-length-3 : tie.Need-same-length-3
 same-length-3 c = search needs
 
 returns-2 : tie.Need-returns-2
-returns-2 c = let e = c .before .before .before .before .before .before .before .before .before .before .before .before .before .before .before in rest-fails (now (e .args .t)) (now (e .args .m)) (e .args .group) _ (c .before .before .before .before .before .rest .ensures) _ (c .before .before .before .fill2 .ensures .0) (c .if2 .taken)
+returns-2 c = let e = c .before .before .before .before .before .before .before .before .before .before .before .before .before .before .before in rest-fails (now (e .args .t)) (now (e .args .m)) (e .args .group) _ (c .before .before .before .before .before .rest .ensures .1) _ (c .before .before .before .fill2 .ensures .0) (c .if2 .taken)
 
 shared-slice-read-pages-apart : tie.Need-shared-slice-read-pages-apart
 shared-slice-read-pages-apart c = omega (arith, header _ _ (c .before .before .before .before .before .before .before .before .before .before .before .before .before .before .before .before .before .before .pre .0) .long)
@@ -49,7 +49,7 @@ same-length-5 : tie.Need-same-length-5
 same-length-5 c = search needs
 
 returns-3 : tie.Need-returns-3
-returns-3 c = let e = c .before .before .before .before .before .before .before .before .before .before .before .before .before .before .before .before .before .before .before in maps-decide (now (e .args .t)) (now (e .args .m)) (e .args .group) _ (c .before .before .before .before .before .before .before .before .before .rest .ensures) _ _ _ _ _ (c .before .before .before .before .before .before .before .before .before .before .before .before .before .fill .ensures .0) (c .before .before .before .before .before .before .before .before .before .before .if1 .left) (c .before .before .before .before .before .before .before .fill2 .ensures .0) (c .before .before .before .before .if2 .left) (c .before .before .before .before .before .before .before .before .before .before .before .before .before .fill .ensures .1) (c .before .before .before .before .before .before .before .fill2 .ensures .1) (c .pages-apart .ensures)
+returns-3 c = let e = c .before .before .before .before .before .before .before .before .before .before .before .before .before .before .before .before .before .before .before in maps-decide (now (e .args .t)) (now (e .args .m)) (e .args .group) _ (c .before .before .before .before .before .before .before .before .before .rest .ensures .1) _ _ _ _ _ (c .before .before .before .before .before .before .before .before .before .before .before .before .before .fill .ensures .0) (c .before .before .before .before .before .before .before .before .before .before .if1 .left) (c .before .before .before .before .before .before .before .fill2 .ensures .0) (c .before .before .before .before .if2 .left) (c .before .before .before .before .before .before .before .before .before .before .before .before .before .fill .ensures .1) (c .before .before .before .before .before .before .before .fill2 .ensures .1) (c .pages-apart .ensures)
 
 pub maps-apart-spec : {M : Type 1} → statement M
 maps-apart-spec =

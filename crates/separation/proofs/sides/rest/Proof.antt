@@ -1,17 +1,19 @@
--- `separation::sides::rest` meets its contract. The loop: the bits of the cores passed are those of the other running cores.
+-- `separation::sides::rest` meets its contract. The loop: the bits of the cores passed are set.
 -- Assumes nothing.
 use borrow.Author.Needs.{needs}
-use mathlib.Core.Path.{_≡_, refl, sym, ap, ap₂, subst, _∙_}
+use mathlib.Core.Path.{_≡_, refl, ap, _∙_}
 use Prim.Native.Nat.{ℕ, _≤_, _-_}
 use native.Mathlib.Omega.{arith}
 use denote.Ref.{now}
 use Rattle.tables.specs.Views.{coresOf, runs}
-use Rattle.separation.proofs.Deciding.{Others, others-none, others-put, others-all, byte-small}
+use Rattle.reach.specs.Reach.{members}
+use Rattle.separation.specs.Apart.{restBelow}
+use Rattle.separation.proofs.Deciding.{rest-put, rest-members, byte-small}
 use Rattle.separation.proofs.sides.rest.Statement.{statement}
 use Rattle.separation.proofs.sides.rest.Tie as tie
 
 abbrev Inv-loop : tie.InvT-loop
-Inv-loop t group cores r₀ k₀ r k = (cores ≡ coresOf t) × ((k ≤ cores) × Others group t r k)
+Inv-loop t group cores r₀ k₀ r k = (cores ≡ coresOf t) × ((k ≤ cores) × (r ≡ restBelow group t k))
 
 abbrev μ-loop : tie.MeasureT-loop
 μ-loop t group cores r₀ k₀ r k = cores - k
@@ -20,7 +22,8 @@ shared-slice-read-cores : tie.Need-shared-slice-read-cores Inv-loop μ-loop
 shared-slice-read-cores c = omega arith
 
 loop-holds : tie.Need-loop-holds Inv-loop μ-loop
-loop-holds c = (refl, (omega arith, others-none _ _ _))
+unfolding restBelow
+loop-holds c = (refl, (omega arith, refl))
 
 is-member-requires : tie.Need-is-member-requires Inv-loop μ-loop
 is-member-requires c κs = omega arith
@@ -48,16 +51,17 @@ loop-again c = (
   c .before .before .before .before .before .loop .inv .0,
   (
     omega arith,
-    others-put (c .before .before .before .is-member .ensures) (c .before .runs .ensures ∙ ap runs (c .before .before .block .ensures .0)) (c .put-bit .ensures)
+    rest-put (c .before .before .before .before .before .before .before .before .args .group) (now (c .before .before .before .before .before .before .before .before .args .t)) (c .before .before .before .before .before .loop .k) (c .before .before .before .is-member .ensures) (c .before .runs .ensures ∙ ap runs (c .before .before .block .ensures .0)) (c .put-bit .ensures)
         (c .before .before .before .before .before .loop .inv .1 .1),
   ),
 )
 
 returns : tie.Need-returns Inv-loop μ-loop
 returns c =
-    let e : c .before .loop .k ≡ coresOf (now (c .before .before .before .before .args .t)) = omega arith in
-    others-all (c .before .before .before .before .args .group) (now (c .before .before .before .before .args .t)) (c .before .loop .r)
-    (subst (Others (c .before .before .before .before .args .group) (now (c .before .before .before .before .args .t)) (c .before .loop .r)) e (c .before .loop .inv .1 .1))
+    let a = c .before .before .before .before .args in
+    let e : c .before .loop .k ≡ coresOf (now (a .t)) = omega arith in
+    let r = c .before .loop .inv .1 .1 ∙ ap (restBelow (a .group) (now (a .t))) e in
+    (r, ap (λ (n : ℕ). members n (coresOf (now (a .t)))) r ∙ rest-members (a .group) (now (a .t)))
 
 pub rest-spec : {M : Type 1} → statement M
 rest-spec =

@@ -2,11 +2,11 @@ use mathlib.Core.List.{[], _∷_}
 use mathlib.Core.Logic.{⊎-elim}
 use Rattle.decode.specs.Table.{rowOf}
 use Rattle.decode.proofs.Rows.{by-fun, other-fun}
-use Rattle.disassemble.specs.Disassembly.{syntaxOf}
-use Rattle.disassemble.specs.inner.Forms.{formOf}
-use Rattle.disassemble.proofs.Shown.{shown}
-use Rattle.disassemble.proofs.forms.special.Statement.{statement}
-use Rattle.disassemble.proofs.forms.special.Tie as tie
+use Rattle.forms.specs.Syntax.{syntaxOf}
+use Rattle.forms.specs.inner.Forms.{formOf}
+use Rattle.forms.proofs.Rows.{shown}
+use Rattle.forms.proofs.special.Statement.{statement}
+use Rattle.forms.proofs.special.Tie as tie
 
 returns : tie.Need-returns
 unfolding rowOf syntaxOf formOf

@@ -1,23 +1,47 @@
-// The row of tables 1 to 4 that a word meets, as it is shown: by opcode and function code and, where the tables print one, by rs or rt. 01 asks for a mnemonic
-// chosen so, which is why the decoder is not asked; both are held to the same tables. The range at the end of a match begins at the first code that no row has,
-// and takes every code that no arm before it has.
-use super::Form;
-use super::Operand::Iindex;
-use super::Operand::Imm;
-use super::Operand::Rd;
-use super::Operand::Rs;
-use super::Operand::Rt;
-use super::Operand::Sa;
-use super::Operand::Uimm;
-use super::OperandList::None;
-use super::OperandList::One;
-use super::OperandList::Three;
-use super::OperandList::Two;
-use super::mnemonics;
+// How an instruction word is shown: the mnemonic and the operands of the row of tables 1 to 4 that it meets
+// (specs/Syntax.antt). The row is found by opcode and function code and, where the tables print one, by rs or rt. 01
+// asks for a mnemonic chosen so, which is why the decoder is not asked; both are held to the same tables. The range at
+// the end of a match begins at the first code that no row has, and takes every code that no arm before it has.
+mod mnemonics;
+
+use self::Operand::Iindex;
+use self::Operand::Imm;
+use self::Operand::Rd;
+use self::Operand::Rs;
+use self::Operand::Rt;
+use self::Operand::Sa;
+use self::Operand::Uimm;
+use self::OperandList::None;
+use self::OperandList::One;
+use self::OperandList::Three;
+use self::OperandList::Two;
 ghost use mathlib.Core.Path.{_≡_};
 ghost use Rattle.decode.specs.Table.{decoded, rowOf};
-ghost use Rattle.disassemble.specs.Disassembly.{syntaxOf};
-ghost use Rattle.disassemble.specs.inner.Forms.{formOf};
+ghost use Rattle.forms.specs.Syntax.{syntaxOf};
+ghost use Rattle.forms.specs.inner.Forms.{formOf};
+
+// What an instruction's syntax names: a register, the shift amount, the immediate, signed or unsigned, or the jump
+// index.
+pub enum Operand {
+    Rs,
+    Rt,
+    Rd,
+    Sa,
+    Imm,
+    Uimm,
+    Iindex,
+}
+
+// Up to three of them, in the order in which they are shown.
+pub enum OperandList {
+    None,
+    One(Operand),
+    Two(Operand, Operand),
+    Three(Operand, Operand, Operand),
+}
+
+// How an instruction is shown: its mnemonic, filled up with zeros to six bytes, and its operands.
+pub struct Form(pub [u8; 6], pub OperandList);
 
 // Table 3: opcode 000000, by the function code.
 fn special(fun: u32) -> Form
@@ -101,7 +125,7 @@ fn sign_branch(rt: u32) -> Form
 }
 
 // How the word is shown.
-pub fn form(w: u32) -> Form
+pub fn form_of(w: u32) -> Form
     ensures { λ r. ⌜ r ≡ formOf (syntaxOf (decoded w)) ⌝ }
 {
     let opcode = (w >> 26) % 64;

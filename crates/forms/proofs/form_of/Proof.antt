@@ -5,11 +5,11 @@ use borrow.Author.Needs.{needs}
 use borrow.Author.Tests.{eq-eqb, ne-eqb}
 use Rattle.decode.specs.Table.{rowOf}
 use Rattle.decode.proofs.Rows.{by-opcode, other-opcode}
-use Rattle.disassemble.specs.Disassembly.{syntaxOf}
-use Rattle.disassemble.specs.inner.Forms.{formOf}
-use Rattle.disassemble.proofs.Shown.{shown}
-use Rattle.disassemble.proofs.forms.form.Statement.{statement}
-use Rattle.disassemble.proofs.forms.form.Tie as tie
+use Rattle.forms.specs.Syntax.{syntaxOf}
+use Rattle.forms.specs.inner.Forms.{formOf}
+use Rattle.forms.proofs.Rows.{shown}
+use Rattle.forms.proofs.form_of.Statement.{statement}
+use Rattle.forms.proofs.form_of.Tie as tie
 
 special-requires : tie.Need-special-requires
 special-requires c κs = search needs
@@ -143,8 +143,8 @@ returns-30 : tie.Need-returns-30
 unfolding rowOf syntaxOf formOf
 returns-30 c = shown (other-opcode _ (43 ∷ 41 ∷ 40 ∷ 37 ∷ 36 ∷ 35 ∷ 33 ∷ 32 ∷ 28 ∷ 16 ∷ 15 ∷ 14 ∷ 13 ∷ 12 ∷ 11 ∷ 10 ∷ 9 ∷ 8 ∷ 7 ∷ 6 ∷ 5 ∷ 4 ∷ 3 ∷ 2 ∷ 1 ∷ 0 ∷ []) tt (c .match .rest .0))
 
-pub form-spec : {M : Type 1} → statement M
-form-spec =
+pub form-of-spec : {M : Type 1} → statement M
+form-of-spec =
     tie.close
     (tie.spec
     special-requires

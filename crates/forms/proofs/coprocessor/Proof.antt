@@ -1,11 +1,11 @@
 use borrow.Author.Tests.{eq-eqb, ne-eqb}
 use Rattle.decode.specs.Table.{rowOf}
 use Rattle.decode.proofs.Rows.{by-rs}
-use Rattle.disassemble.specs.Disassembly.{syntaxOf}
-use Rattle.disassemble.specs.inner.Forms.{formOf}
-use Rattle.disassemble.proofs.Shown.{shown}
-use Rattle.disassemble.proofs.forms.coprocessor.Statement.{statement}
-use Rattle.disassemble.proofs.forms.coprocessor.Tie as tie
+use Rattle.forms.specs.Syntax.{syntaxOf}
+use Rattle.forms.specs.inner.Forms.{formOf}
+use Rattle.forms.proofs.Rows.{shown}
+use Rattle.forms.proofs.coprocessor.Statement.{statement}
+use Rattle.forms.proofs.coprocessor.Tie as tie
 
 returns : tie.Need-returns
 unfolding rowOf syntaxOf formOf

@@ -1,15 +1,15 @@
 -- A row of the column as the code has it: the mnemonic filled up with zeros to six bytes, and up to three operands.
--- `form-text` of proofs/Rows says that its text is the row's.
+-- `form-row` of proofs/Rows says that they are the row's.
 -- Assumes nothing.
 use mathlib.Core.List.{List, [], _∷_, _++_}
 use Prim.Native.Nat.{ℕ, zero, suc}
 use lib.ListN.{take, replicate}
 use Rattle.text.specs.Text.{ascii}
-use Rattle.disassemble.specs.declared.Operand.{Operand}
-use Rattle.disassemble.specs.declared.OperandList.{OperandList}
-use Rattle.disassemble.specs.declared.OperandList.the-variants.{None, One, Two, Three}
-use Rattle.disassemble.specs.declared.Form.{Form}
-use Rattle.disassemble.specs.Disassembly.{Syntax, operandsText}
+use Rattle.forms.specs.declared.Operand.{Operand}
+use Rattle.forms.specs.declared.OperandList.{OperandList}
+use Rattle.forms.specs.declared.OperandList.the-variants.{None, One, Two, Three}
+use Rattle.forms.specs.declared.Form.{Form}
+use Rattle.forms.specs.Syntax.{Syntax}
 
 -- the first three of a list
 abbrev pub firstThree : List Operand → OperandList
@@ -32,6 +32,3 @@ unfoldable pub letters : List ℕ → List ℕ
 letters [] = []
 letters (zero ∷ l) = []
 letters (suc c ∷ l) = suc c ∷ letters l
-
-unfoldable pub formText : Form → ℕ → List ℕ
-formText l w = letters (l .0) ++ operandsText (asList (l .1)) w

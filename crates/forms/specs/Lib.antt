@@ -1,0 +1,3 @@
+pub mod Syntax
+pub mod Named
+pub mod inner
