@@ -195,14 +195,14 @@ impl Counts {
         }
         head(&mut out, "field at its edges", &["rows that name it", "edges", "fewest times, one row and edge"]);
         for field in FIELDS {
-            let kinds: &[(&str, bool)] = if field.name == "imm" {
-                &[("imm, signed", true), ("imm, unsigned", false)]
+            let kinds: &[(&str, &[bool])] = if field.name == "imm" {
+                &[("imm, signed", &[true]), ("imm, unsigned", &[false])]
             } else {
-                &[(field.name, true)]
+                &[(field.name, &[true, false])]
             };
             for (name, signed) in kinds {
                 let rows: Vec<&Form> =
-                    forms.iter().filter(|form| form.named.contains(&field) && form.signed() == *signed).collect();
+                    forms.iter().filter(|form| form.named.contains(&field) && signed.contains(&form.signed())).collect();
                 let cells = |form: &&Form| {
                     let name = form.name;
                     field.edges().iter().map(move |edge| format!("{name}/{}/{edge}", field.name))
