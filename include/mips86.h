@@ -150,10 +150,10 @@ uint32_t mips86_apart(const uint32_t *tables, size_t ntables, const uint8_t *mem
  * Uses some 42 KB of stack.
  *
  * A reason names the lowest page at fault and one way to it: it begins at the core's pto, at a walk or at a pending
- * store, and goes on through up to two present entries. Reason 6 names two: how the rest writes the page or uses it as a
- * table, in words 0 to 8, and how the group reaches it, in words 9 to 17; either may be the fault. That each way is
- * real, followed entry by entry to the page and with the right that spoils the verdict, is proved. Words that a reason
- * does not have are zero.
+ * store, and goes on through up to two present entries. Reason 6 names two: how the rest writes the page or uses it as
+ * a table, in words 0 to 8, and how the group reaches it, in words 9 to 17; either may be the fault. It is proved that
+ * each way is real, followed entry by entry to the page, and that the way in words 0 to 8 has the right that spoils the
+ * verdict. Words that a reason does not have are zero.
  */
 #define MIPS86_WHY_WORDS 18
 

@@ -1,14 +1,12 @@
 #!/usr/bin/env python3
-"""Throws bad inputs at the program verdict. Whatever comes, it writes to standard output alone and ends by itself: one line that says what is
-wrong, or a whole report whose last line is the verdict. Python, standard library only.
+"""Throws good and bad inputs at the program verdict. Whatever comes, it writes to standard output alone and ends by
+itself: one line that says what is wrong, or the whole report that the answers of the library for that group come to
+(tests/judged.c), word for word. All groups of each bundled map are asked. Python, standard library only.
 
-    python3 tests/verdict.py target/bin/verdict examples/maps [HOW_MANY]
+    python3 tests/verdict.py target/bin/verdict JUDGED examples/maps [HOW_MANY]
 """
 import random, re, resource, struct, subprocess, sys
 
-LINE = re.compile(r"[ -~]{1,120}")
-ROW = re.compile(r" {0,3}[0-9]{1,4} [.rwtRWT=+!]{1,64}")
-MARKS = 64
 WRONG = re.compile(
     r"no group: name its cores, as in 'verdict 0 2'"
     r"|'.{0,18}' is no core number: 0 to 3"
@@ -17,64 +15,108 @@ WRONG = re.compile(
     r"|word 0 says [0-9]+ cores, not 1 to 4"
     r"|word 1 says [0-9]+ pages, not 1 to 4096"
     r"|a map of [0-9]+ pages needs a larger stack: type 'ulimit -s 32768' first"
-    r"|refused (4: the tables are not sound|13: a core of the group is not there)"
 )
-SIDE = re.compile(
-    r"(group|rest): (no cores|core [0-3]|cores( [0-3]){2,4}); reaches (1 page|[0-9]+ pages), writes [0-9]+, uses (1 as a table|[0-9]+ as tables)"
-)
-WAY = r"core [0-3], (virtual page [0-9a-f]{5}|virtual pages [0-9a-f]{5} to [0-9a-f]{5}|the page in pto|the walk in record [0-9]+|the pending store in record [0-9]+)(, entry at [0-9a-f]{8}|, entries at [0-9a-f]{8} and [0-9a-f]{8})?"
-# in their order
-REASONS = [
-    r"core [0-3] is not running in user mode",
-    r"the group reaches page [0-9]+, beyond memory: " + WAY,
-    r"the rest reaches page [0-9]+, beyond memory: " + WAY,
-    r"the group can write its own table page [0-9]+: " + WAY,
-    r"the rest can write its own table page [0-9]+: " + WAY,
-    r"the rest (can write page [0-9]+, which the group reaches|uses page [0-9]+, which the group reaches, as a table): " + WAY,
-]
-# the second line of the last reason, about the same page
-TOUCHES = len(REASONS) - 1
-OWN = r"the group reaches page [0-9]+: " + WAY
-LEGEND = 3
+MARKS = 64
+LEGEND = """\
+r w t: the group reads it, writes it, uses it as a table; R W T: the rest does
+=: both read it; +: the group writes it or uses it as a table, the rest reads it
+!: it spoils the verdict; .: neither the group nor the rest reaches it
+"""
+DATA, TABLE, WRITABLE = 1, 2, 4
+RUNNING = 67
 
 
-def what_is_wrong(out, pages):
-    """None where the output is one line or a whole report."""
-    if not out.endswith(b"\n"):
-        return "no line feed at the end"
+# What the report has to be, from what the library answers (tests/judged.c).
+
+
+def cores_of(cores):
+    return " ".join(["no cores", "core", "cores", "cores", "cores"][len(cores)].split() + [str(k) for k in cores])
+
+
+def side(name, cores, map_):
+    pages, tables = sum(x != 0 for x in map_), sum(x & TABLE != 0 for x in map_)
+    reaches = "1 page" if pages == 1 else "%d pages" % pages
+    uses = "1 as a table" if tables == 1 else "%d as tables" % tables
+    return "%s: %s; reaches %s, writes %d, uses %s\n" % (name, cores_of(cores), reaches, sum(x & WRITABLE != 0 for x in map_), uses)
+
+
+def mark(own, rest):
+    both = TABLE | WRITABLE
+    if own & both == both or rest & both == both or (own and rest & both):
+        return "!"
+    if own and rest:
+        return "+" if own & both else "="
+    letter = "t" if (own | rest) & TABLE else "w" if (own | rest) & WRITABLE else "r"
+    return letter if own else letter.upper() if rest else "."
+
+
+def picture(own, rest):
+    marks = "".join(map(mark, own, rest))
+    return "".join("%4d %s\n" % (i, marks[i : i + MARKS]) for i in range(0, len(marks), MARKS))
+
+
+def way(core, page, level, write, root, record, entries, first, second):
+    high, low = first // 4 % 1024, second // 4 % 1024
+    begins = [
+        ["the page in pto", "virtual pages %05x to %05x" % (1024 * high, 1024 * high + 1023), "virtual page %05x" % (1024 * high + low)][entries],
+        "the walk in record %d" % record,
+        "the pending store in record %d" % record,
+    ][root]
+    through = ["", ", entry at %08x" % first, ", entries at %08x and %08x" % (first, second)][entries]
+    return "core %d, %s%s" % (core, begins, through)
+
+
+def reason(n, words):
+    core, page, level = words[:3]
+    there = way(*words[:9])
+    if n == 1:
+        return "core %d is not running in user mode\n" % core
+    if n in (2, 3):
+        return "the %s reaches page %d, beyond memory: %s\n" % (["group", "rest"][n - 2], page, there)
+    if n in (4, 5):
+        return "the %s can write its own table page %d: %s\n" % (["group", "rest"][n - 4], page, there)
+    does = ["can write page %d, which the group reaches", "uses page %d, which the group reaches, as a table"][level != 0] % page
+    return "the rest %s: %s\nthe group reaches page %d: %s\n" % (does, there, words[10], way(*words[9:]))
+
+
+def report(judged, data, group):
+    """What is to be said of a group of a machine; the machine is as long as its words 0 and 1 say."""
+    cores = range(struct.unpack_from("<I", data)[0])
+    runs = [struct.unpack_from("<I", data, 128 + 1024 * k + 4 * RUNNING)[0] == 1 for k in cores]
+    rest = [k for k in cores if runs[k] and k not in group]
+    stopped = [k for k in cores if not runs[k] and k not in group]
+    numbers = [str(sum(1 << k for k in side_)) for side_ in (group, rest)]
+    lines = subprocess.run([judged] + numbers, input=data, stdout=subprocess.PIPE, check=True, timeout=20).stdout.decode().split("\n")[:-1]
+    answer = int(lines[0].split()[1])
+    if answer >= 100:
+        return "refused %s\n" % {104: "4: the tables are not sound", 113: "13: a core of the group is not there"}[answer]
+    own, other = (bytes.fromhex(line.split()[1]) for line in lines[1:3])
+    said = side("group", sorted(group), own) + side("rest", rest, other) + picture(own, other) + LEGEND
+    for line in lines[3:]:
+        n, *words = map(int, line.split()[1:])
+        said += reason(n, words)
+    if stopped:
+        said += "not running, so not judged: %s\n" % cores_of(stopped)
+    return said + ["not apart\n", "apart\n"][answer]
+
+
+def has_its_length(data):
+    if len(data) < 8:
+        return False
+    cores, pages = struct.unpack_from("<2I", data)
+    return 1 <= cores <= 4 and 1 <= pages <= 4096 and len(data) == 128 + 1024 * cores + 4096 * pages
+
+
+def what_is_wrong(out, judged, data, group):
+    """None where the output is what it has to be; group is None where the arguments name none."""
     try:
-        lines = out.decode("ascii").split("\n")[:-1]
+        text = out.decode("ascii")
     except UnicodeDecodeError:
         return "bytes that are not ASCII"
-    if len(lines) == 1:
-        return None if LINE.fullmatch(lines[0]) and WRONG.fullmatch(lines[0]) else "a line that is not known"
-    if lines[-1] not in ("apart", "not apart"):
-        return "the last line is no verdict"
-    if not (SIDE.fullmatch(lines[0]) and lines[0].startswith("group") and SIDE.fullmatch(lines[1]) and lines[1].startswith("rest")):
-        return "the lines of the sides"
-    rows = (pages + MARKS - 1) // MARKS
-    picture = lines[2 : 2 + rows]
-    if not all(ROW.fullmatch(row) and int(row[:4]) == MARKS * i for i, row in enumerate(picture)):
-        return "the picture's rows"
-    marks = "".join(row[5:] for row in picture)
-    if len(marks) != pages:
-        return "the picture has %d marks for %d pages" % (len(marks), pages)
-    reasons = lines[2 + rows + LEGEND : -1]
-    if lines[-1] == "apart" and (reasons or "!" in marks):
-        return "apart, with a reason or a mark that spoils it"
-    if reasons and re.fullmatch(OWN, reasons[-1]):
-        own = reasons.pop()
-        page = re.search(r"page [0-9]+", own).group()
-        if not reasons or not re.fullmatch(REASONS[TOUCHES], reasons[-1]) or page + "," not in reasons[-1]:
-            return "a second line without its reason"
-    elif reasons and re.fullmatch(REASONS[TOUCHES], reasons[-1]):
-        return "the last reason without its second line"
-    if lines[-1] == "not apart" and not 1 <= len(reasons) <= 6:
-        return "not apart, with %d reasons" % len(reasons)
-    numbers = [n for line in reasons for n, form in enumerate(REASONS) if re.fullmatch(form, line)]
-    if len(numbers) != len(reasons) or numbers != sorted(set(numbers)):
-        return "the lines of the reasons"
-    return None
+    if group is not None and has_its_length(data):
+        return None if text == report(judged, data, group) else "not what the library answers"
+    line = text[:-1]
+    return None if text.endswith("\n") and len(line) <= 120 and WRONG.fullmatch(line) else "a line that is not known"
 
 
 def cut(r, b):
@@ -138,6 +180,14 @@ def fewer(r, b):
     return struct.pack("<I", n) + b[4 : 128 + 1024 * n] + b[128 + 1024 * 4 :]
 
 
+def stopping(r, b):
+    """Some cores do not run."""
+    bytes_ = bytearray(b)
+    for k in r.sample(range(4), r.randrange(1, 4)):
+        struct.pack_into("<I", bytes_, 128 + 1024 * k + 4 * RUNNING, 0)
+    return bytes(bytes_)
+
+
 def noise(r, b):
     return r.randbytes(r.choice([0, 1, 7, 8, 9, 40, 5248]))
 
@@ -160,10 +210,10 @@ def sizes(program, map_):
     """Maps of 1,024 pages and of more, on the usual stack and on a larger one: what is said last, and in how many lines."""
     failed = 0
     for kilobytes, pages, last, lines in (
-        (8192, 1024, "apart", 2 + 16 + LEGEND + 1),
+        (8192, 1024, "apart", 2 + 16 + 3 + 1),
         (8192, 1025, "a map of 1025 pages needs a larger stack: type 'ulimit -s 32768' first", 1),
-        (32768, 1025, "apart", 2 + 17 + LEGEND + 1),
-        (32768, 4096, "apart", 2 + 64 + LEGEND + 1),
+        (32768, 1025, "apart", 2 + 17 + 3 + 1),
+        (32768, 4096, "apart", 2 + 64 + 3 + 1),
     ):
         stack(kilobytes)
         got = subprocess.run([program, "0"], input=enlarged(map_, pages), stdout=subprocess.PIPE, timeout=20).stdout.decode().split("\n")[:-1]
@@ -173,38 +223,45 @@ def sizes(program, map_):
     return failed
 
 
-GROUPS = [["0"], ["1"], ["2"], ["3"], ["0", "2"], ["1", "2", "3"], ["0", "1", "2", "3"], ["3", "3"]]
+GROUPS = [[str(k) for k in range(4) if n >> k & 1] for n in range(1, 16)] + [["3", "3"], ["2", "0", "2"], ["3", "1"]]
 BAD_GROUPS = [[], [""], ["4"], ["-1"], ["00"], ["x7"], ["0", "x"], ["\x01\x7f"], ["é"], ["1" * 16], ["1" * 17], ["a" * 5000], ["0"] * 300 + ["9"], ["'"], ["%s%n"]]
 
 
+def questions(r, good, count):
+    """Each bundled map with each group, and with a core that does not run; then maps at random."""
+    for data in good:
+        for group in GROUPS:
+            yield as_it_is, data, group
+            yield stopping, stopping(r, data), group
+    damages = [cut, cut_early, longer, header, table_words, table_words, table_words, entries, entries, held, held, fewer, stopping, noise]
+    for _ in range(count):
+        damage = r.choice(damages)
+        yield damage, damage(r, r.choice(good)), r.choice(BAD_GROUPS) if r.random() < 0.1 else r.choice(GROUPS)
+
+
 def main():
-    program, maps = sys.argv[1], sys.argv[2]
-    count = int(sys.argv[3]) if len(sys.argv) > 3 else 3000
+    program, judged, maps = sys.argv[1:4]
+    count = int(sys.argv[4]) if len(sys.argv) > 4 else 3000
     good = [open("%s/%s.bin" % (maps, name), "rb").read() for name in ("feeder", "competitor", "own_table")]
     r = random.Random(20261116)
-    damages = [cut, cut_early, longer, header, table_words, table_words, table_words, entries, entries, held, held, fewer, noise, as_it_is]
-    failed, reports, apart = sizes(program, good[0]), 0, 0
+    failed, asked, reports, apart, stopped = sizes(program, good[0]), 0, 0, 0, 0
     stack(8192)
-    for i in range(count):
-        damage = r.choice(damages)
-        data = damage(r, r.choice(good))
-        group = r.choice(BAD_GROUPS) if r.random() < 0.1 else r.choice(GROUPS)
+    for damage, data, group in questions(r, good, count):
         got = subprocess.run([program] + group, input=data, stdout=subprocess.PIPE, stderr=subprocess.PIPE, timeout=20)
-        pages = struct.unpack_from("<I", data, 4)[0] if len(data) >= 8 else 0
-        wrong = what_is_wrong(got.stdout, pages)
+        wrong = what_is_wrong(got.stdout, judged, data, None if group in BAD_GROUPS else {int(k) for k in group})
         if got.returncode != 0:
             wrong = "status %d" % got.returncode
         if got.stderr:
             wrong = "bytes on standard error"
-        if group in BAD_GROUPS and got.stdout.count(b"\n") != 1:
-            wrong = "a report on a group that is none"
         if wrong:
             failed += 1
-            print("verdict: input %d (%s, %r): %s: %r" % (i, damage.__name__, [g[:20] for g in group[:3]], wrong, got.stdout[:300]))
+            print("verdict: input %d (%s, %r): %s: %r" % (asked, damage.__name__, [g[:20] for g in group[:3]], wrong, got.stdout[:300]))
+        asked += 1
         reports += got.stdout.count(b"\n") > 1
         apart += got.stdout.endswith(b"\napart\n")
-    print("verdict: %d inputs, %d reports (%d apart), %d failed" % (count, reports, apart, failed))
-    if failed or reports < count // 20 or apart == 0:
+        stopped += b"\nnot running, so not judged: " in got.stdout
+    print("verdict: %d inputs, %d reports (%d apart, %d with cores not judged), %d failed" % (asked, reports, apart, stopped, failed))
+    if failed or reports < count // 20 or apart == 0 or stopped == 0:
         sys.exit(1)
 
 

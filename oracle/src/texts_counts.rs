@@ -201,8 +201,10 @@ impl Counts {
                 &[(field.name, &[true, false])]
             };
             for (name, signed) in kinds {
-                let rows: Vec<&Form> =
-                    forms.iter().filter(|form| form.named.contains(&field) && signed.contains(&form.signed())).collect();
+                let rows: Vec<&Form> = forms
+                    .iter()
+                    .filter(|form| form.named.contains(&field) && signed.contains(&form.signed()))
+                    .collect();
                 let cells = |form: &&Form| {
                     let name = form.name;
                     field.edges().iter().map(move |edge| format!("{name}/{}/{edge}", field.name))

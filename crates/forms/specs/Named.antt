@@ -52,8 +52,8 @@ arithmetic =
     Instruction.Alu Or ∷ Instruction.Alu Xor ∷ Instruction.Alu Nor ∷ Instruction.Alu Slt ∷ Instruction.Alu Sltu ∷ []
 
 -- table 3 and table 4, multiplication; mul alone of them has rd
-abbrev products : List Instruction
-products =
+abbrev multiplications : List Instruction
+multiplications =
     Instruction.Multiply Mult ∷ Instruction.Multiply Multu ∷ Instruction.Multiply Madd ∷ Instruction.Multiply Maddu ∷
     Instruction.Multiply Mul ∷ Instruction.Multiply Msub ∷ Instruction.Multiply Msubu ∷ []
 
@@ -65,13 +65,13 @@ specials = Instruction.Move Movg2s ∷ Instruction.Move Movs2g ∷ []
 
 unfoldable pub namesRs : Instruction → Bool
 namesRs i =
-    oneOf i (transfers ++ immediates ++ branches) || oneOf i (byRegister ++ arithmetic ++ products)
+    oneOf i (transfers ++ immediates ++ branches) || oneOf i (byRegister ++ arithmetic ++ multiplications)
     || oneOf i (Instruction.Move Mthi ∷ Instruction.Move Mtlo ∷ Instruction.Jump Jr ∷ Instruction.Jump Jalr ∷ [])
     || oneOf i (Instruction.System Cas ∷ Instruction.System Invlpg ∷ [])
 
 unfoldable pub namesRt : Instruction → Bool
 namesRt i =
-    oneOf i (transfers ++ immediates) || oneOf i (byAmount ++ byRegister ++ arithmetic ++ products ++ specials)
+    oneOf i (transfers ++ immediates) || oneOf i (byAmount ++ byRegister ++ arithmetic ++ multiplications ++ specials)
     || oneOf i (Instruction.Immediate Lui ∷ Instruction.Branch Beq ∷ Instruction.Branch Bne ∷ [])
     || oneOf i (Instruction.System Cas ∷ [])
 

@@ -1,17 +1,20 @@
 -- What is said of a group: the report, or the one line of a refusal.
 -- Assumes nothing.
-use mathlib.Core.List.{List, _++_}
+use mathlib.Core.Bool.{Bool, _&&_, not}
+use mathlib.Core.List.{List, [], _∷_, _++_}
 use Prim.Native.Nat.{ℕ}
 use lib.Dec.{eqb}
-use Rattle.word.specs.Word.{if_then_else_}
+use Rattle.word.specs.Word.{if_then_else_, isSet}
+use Rattle.layout.specs.Blocks.{block}
 use Rattle.text.specs.Text.{Put, ascii, decimal}
-use Rattle.tables.specs.Views.{coresOf}
+use Rattle.tables.specs.Views.{coresOf, runs}
+use Rattle.reach.specs.Lists.{range, select}
 use Rattle.reach.specs.Reach.{members, mapFor}
 use Rattle.separation.specs.Apart.{rest}
 use Rattle.separation.specs.declared.Verdict.{Verdict}
 use Rattle.separation.specs.declared.Verdict.the-variants.{No, Yes, Refused}
 use Rattle.picture.specs.Pages.{picture}
-use Rattle.picture.specs.Lines.{sideText, legendText}
+use Rattle.picture.specs.Lines.{coresText, sideText, legendText}
 use Rattle.reason_lines.specs.Reasons.{reasonLines}
 
 -- ---- a refusal
@@ -36,8 +39,24 @@ unfoldable pub sidesText : ℕ → List ℕ → List ℕ → List ℕ
 sidesText g t m =
     shownSides (members g (coresOf t)) (rest g t) (mapFor (members g (coresOf t)) t m) (mapFor (rest g t) t m)
 
+-- core k is outside the group and does not run: it is of neither side, so it is not judged
+abbrev pub isStopped : ℕ → List ℕ → ℕ → Bool
+isStopped g t k = not (isSet g k) && not (runs (block t k))
+
+unfoldable pub stopped : ℕ → List ℕ → List ℕ
+stopped g t = select (isStopped g t) (range (coresOf t))
+
+-- their line, where there are any
+unfoldable pub stoppedText : List ℕ → List ℕ
+stoppedText [] = []
+stoppedText (k ∷ l) = ascii "not running, so not judged: " ++ coresText (k ∷ l) ++ ascii "\n"
+
+-- the words of the verdict, below the line of the cores that are not judged
+abbrev pub endText : ℕ → List ℕ → List ℕ → List ℕ
+endText g t words = stoppedText (stopped g t) ++ words
+
 -- bytes b are c after what is said of a verdict, up to place r; there are at most six reasons
 unfoldable pub Reported : Verdict → List ℕ → ℕ → List ℕ → List ℕ → ℕ → List ℕ → Type 0
 Reported (Refused n) b g t m r c = Put b 0 (refusedText n) r c
-Reported Yes b g t m r c = Put b 0 (sidesText g t m ++ ascii "apart\n") r c
-Reported No b g t m r c = Put b 0 (sidesText g t m ++ reasonLines 6 0 g t m ++ ascii "not apart\n") r c
+Reported Yes b g t m r c = Put b 0 (sidesText g t m ++ endText g t (ascii "apart\n")) r c
+Reported No b g t m r c = Put b 0 (sidesText g t m ++ reasonLines 6 0 g t m ++ endText g t (ascii "not apart\n")) r c

@@ -2,25 +2,26 @@
 use layout::CORES;
 use layout::MOST_PAGES;
 use layout::PAGES;
+use separation::sides::is_member;
 use text::put;
 use text::put_number;
 ghost use mathlib.Core.Path.{_≡_};
 ghost use mathlib.Core.Bool.{true};
-ghost use Prim.Native.Nat.{_+_, _≤_};
+ghost use Prim.Native.Nat.{_+_, _*_, _≤_};
 ghost use lib.ListN.{length};
 ghost use Rattle.text.specs.Text.{Put};
 ghost use Rattle.tables.specs.Views.{coresOf, pagesOf};
 ghost use Rattle.tables.specs.Sound.{sound};
-ghost use Rattle.reach.specs.Reach.{isGroup};
+ghost use Rattle.reach.specs.Reach.{isGroup, members};
 ghost use Rattle.separation.specs.Apart.{apartOn};
 ghost use Rattle.reasons.specs.inner.Judging.{Sides};
 ghost use Rattle.reason_lines.specs.Reasons.{reasonLines};
-ghost use Rattle.judgement.specs.Report as x;
-ghost use Rattle.judgement.specs.inner.Lines as y;
+ghost use Rattle.judgement.specs.Report as report;
+ghost use Rattle.judgement.specs.inner.Lines as inner;
 
 fn put_refused_why(out: &mut [u8], at: usize, n: u32) -> usize
     requires { ⌜ at + 40 ≤ length (now out) ⌝ }
-    ensures { λ r. ⌜ Put (now (out .entry)) at (x.refusedWhy n) r (now (out .exit)) × (r ≤ at + 40) ⌝ }
+    ensures { λ r. ⌜ Put (now (out .entry)) at (report.refusedWhy n) r (now (out .exit)) × (r ≤ at + 40) ⌝ }
 {
     if n == 4 {
         return put(out, at, b": the tables are not sound\n");
@@ -33,7 +34,7 @@ fn put_refused_why(out: &mut [u8], at: usize, n: u32) -> usize
 
 fn put_refused(out: &mut [u8], n: u32) -> usize
     requires { ⌜ 200 ≤ length (now out) ⌝ }
-    ensures { λ r. ⌜ Put (now (out .entry)) 0 (x.refusedText n) r (now (out .exit)) × (r ≤ 200) ⌝ }
+    ensures { λ r. ⌜ Put (now (out .entry)) 0 (report.refusedText n) r (now (out .exit)) × (r ≤ 200) ⌝ }
 {
     let p = put(out, 0, b"refused ");
     let q = put_number(out, p, n as u64);
@@ -51,9 +52,9 @@ fn put_sides(
     other: &[u8],
 ) -> usize
     requires { ⌜ sound (now t) (length (now m)) ≡ true ⌝ }
-    requires { ⌜ y.Maps group others (now t) (now m) (now own) (now other) ⌝ }
+    requires { ⌜ inner.Maps group others (now t) (now m) (now own) (now other) ⌝ }
     requires { ⌜ 5998 ≤ length (now out) ⌝ }
-    ensures { λ r. ⌜ Put (now (out .entry)) 0 (x.sidesText group (now (t .entry)) (now (m .entry))) r (now (out .exit)) × (r ≤ 5998) ⌝ }
+    ensures { λ r. ⌜ Put (now (out .entry)) 0 (report.sidesText group (now (t .entry)) (now (m .entry))) r (now (out .exit)) × (r ≤ 5998) ⌝ }
 {
     let cores = t[CORES];
     let p = picture::lines::put_side(out, 0, b"group: ", group, cores, own);
@@ -94,6 +95,47 @@ fn put_reasons(
     p
 }
 
+// The cores outside the group that do not run, as a group.
+fn stopped(t: &[u32], group: u32) -> u32
+    requires { ⌜ (coresOf (now t) ≤ 4) × (32 + 256 * coresOf (now t) ≤ length (now t)) ⌝ }
+    ensures { λ r. ⌜ members r (coresOf (now (t .entry))) ≡ report.stopped group (now (t .entry)) ⌝ }
+{
+    let cores = t[CORES];
+    let mut r: u32 = 0;
+    let mut k: u32 = 0;
+    while k < cores {
+        let still = !is_member(group, k) & !tables::block::runs(layout::block(t, k));
+        r = word::put_bit(r, k, still as u32);
+        k += 1;
+    }
+    r
+}
+
+// The line of the cores that are not judged, where there are any: at most 45 bytes.
+fn put_stopped(out: &mut [u8], at: usize, t: &[u32], group: u32) -> usize
+    requires { ⌜ (coresOf (now t) ≤ 4) × (32 + 256 * coresOf (now t) ≤ length (now t)) × (at + 45 ≤ length (now out)) ⌝ }
+    ensures { λ r. ⌜ Put (now (out .entry)) at (report.stoppedText (report.stopped group (now (t .entry)))) r (now (out .exit)) × (r ≤ at + 45) ⌝ }
+{
+    let cores = t[CORES];
+    let still = stopped(t, group);
+    if picture::lines::count_cores(still, cores) == 0 {
+        return at;
+    }
+    let p = put(out, at, b"not running, so not judged: ");
+    let q = picture::lines::put_cores(out, p, still, cores);
+    put(out, q, b"\n")
+}
+
+// The same, and the words of the verdict below it.
+fn put_end(out: &mut [u8], at: usize, t: &[u32], group: u32, words: &[u8]) -> usize
+    requires { ⌜ (coresOf (now t) ≤ 4) × (32 + 256 * coresOf (now t) ≤ length (now t)) ⌝ }
+    requires { ⌜ (at + 55 ≤ length (now out)) × (length (now words) ≤ 10) ⌝ }
+    ensures { λ r. ⌜ Put (now (out .entry)) at (report.endText group (now (t .entry)) (now (words .entry))) r (now (out .exit)) × (r ≤ at + 55) ⌝ }
+{
+    let p = put_stopped(out, at, t, group);
+    put(out, p, words)
+}
+
 // The report, by the maps of both sides and whether each reaches beyond memory. It is apart where there is no reason against it.
 fn put_all(
     out: &mut [u8],
@@ -108,15 +150,15 @@ fn put_all(
 ) -> usize
     requires { ⌜ (sound (now t) (length (now m)) ≡ true) × (isGroup group (coresOf (now t)) ≡ true) × (12288 ≤ length (now out)) ⌝ }
     requires { ⌜ Sides group others (now t) (now m) (now own) (now other) strays astray ⌝ }
-    ensures { λ r. ⌜ x.Reported (apartOn group (now (t .entry)) (now (m .entry))) (now (out .entry)) group (now (t .entry)) (now (m .entry)) r (now (out .exit)) × (r ≤ 12288) ⌝ }
+    ensures { λ r. ⌜ report.Reported (apartOn group (now (t .entry)) (now (m .entry))) (now (out .entry)) group (now (t .entry)) (now (m .entry)) r (now (out .exit)) × (r ≤ 12288) ⌝ }
 {
     let p = put_sides(out, t, m, group, others, own, other);
     let r = reasons::judge::first_after(t, m, group, others, own, other, strays, astray, 0);
     if reasons::judge::is_none(r) {
-        return put(out, p, b"apart\n");
+        return put_end(out, p, t, group, b"apart\n");
     }
     let q = put_reasons(out, p, t, m, group, others, own, other, strays, astray);
-    put(out, q, b"not apart\n")
+    put_end(out, q, t, group, b"not apart\n")
 }
 
 // The same with the maps filled here.
@@ -130,7 +172,7 @@ fn put_with_maps(
 ) -> usize
     requires { ⌜ (sound (now t) (length (now m)) ≡ true) × (isGroup group (coresOf (now t)) ≡ true) × (12288 ≤ length (now out)) ⌝ }
     requires { ⌜ (length (now own) ≡ pagesOf (now t)) × (length (now other) ≡ pagesOf (now t)) ⌝ }
-    ensures { λ r. ⌜ x.Reported (apartOn group (now (t .entry)) (now (m .entry))) (now (out .entry)) group (now (t .entry)) (now (m .entry)) r (now (out .exit)) × (r ≤ 12288) ⌝ }
+    ensures { λ r. ⌜ report.Reported (apartOn group (now (t .entry)) (now (m .entry))) (now (out .entry)) group (now (t .entry)) (now (m .entry)) r (now (out .exit)) × (r ≤ 12288) ⌝ }
 {
     let others = separation::sides::rest(t, group);
     let strays = reach::fill(t, m, group, own);
@@ -141,7 +183,7 @@ fn put_with_maps(
 // The same with maps of its own.
 fn put_judged(out: &mut [u8], t: &[u32], m: &[u8], group: u32) -> usize
     requires { ⌜ (sound (now t) (length (now m)) ≡ true) × (isGroup group (coresOf (now t)) ≡ true) × (12288 ≤ length (now out)) ⌝ }
-    ensures { λ r. ⌜ x.Reported (apartOn group (now (t .entry)) (now (m .entry))) (now (out .entry)) group (now (t .entry)) (now (m .entry)) r (now (out .exit)) × (r ≤ 12288) ⌝ }
+    ensures { λ r. ⌜ report.Reported (apartOn group (now (t .entry)) (now (m .entry))) (now (out .entry)) group (now (t .entry)) (now (m .entry)) r (now (out .exit)) × (r ≤ 12288) ⌝ }
 {
     let n = t[PAGES] as usize;
     let mut own = [0u8; MOST_PAGES];
@@ -152,7 +194,7 @@ fn put_judged(out: &mut [u8], t: &[u32], m: &[u8], group: u32) -> usize
 // The verdict, and what leads to it; or a refusal.
 pub fn put_report(out: &mut [u8], t: &[u32], m: &[u8], group: u32) -> usize
     requires { ⌜ 12288 ≤ length (now out) ⌝ }
-    ensures { λ r. ⌜ x.Reported (apartOn group (now (t .entry)) (now (m .entry))) (now (out .entry)) group (now (t .entry)) (now (m .entry)) r (now (out .exit)) × (r ≤ 12288) ⌝ }
+    ensures { λ r. ⌜ report.Reported (apartOn group (now (t .entry)) (now (m .entry))) (now (out .entry)) group (now (t .entry)) (now (m .entry)) r (now (out .exit)) × (r ≤ 12288) ⌝ }
 {
     if !tables::sound(t, m.len()) {
         return put_refused(out, 4);

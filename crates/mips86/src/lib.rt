@@ -1,6 +1,6 @@
-// The interface for C and Rust (include/mips86.h): make, step, run, reach, apart, why and translate on lent tables and memory,
-// and disassemble on a word and lent bytes. A slice is a pointer and a length in C, and each operation answers one number;
-// run, reach and translate write one more word, why 18.
+// The interface for C and Rust (include/mips86.h): make, step, run, reach, apart, why and translate on lent tables and
+// memory, and disassemble on a word and lent bytes. A slice is a pointer and a length in C, and each operation answers
+// one number; run, reach and translate write one more word, why 18.
 ghost use mathlib.Core.Path.{_≡_};
 ghost use lib.ListN.{length};
 ghost use Rattle.tables.specs.Make as made;
@@ -81,8 +81,8 @@ pub extern "C" fn mips86_apart(tables: &[u32], memory: &[u8], group: u32) -> u32
     numbers::verdict_number(separation::apart(tables, memory, group))
 }
 
-// Why a group is not apart: 0 no reason after reason `after`, 1 to 6 the first one, with the rest of it in 18 words, 100 and
-// the number of a refusal.
+// Why a group is not apart: 0 no reason after reason `after`, 1 to 6 the first one, with the rest of it in 18 words,
+// 100 and the number of a refusal.
 #[no_mangle]
 pub extern "C" fn mips86_why(
     tables: &[u32],

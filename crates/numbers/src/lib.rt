@@ -1,5 +1,5 @@
-// What an operation answers, as the one number that C and Rust get, and the word beside it where there is one. The definitions
-// stand beside each operation's; that of a step has its function there too (steps::answer_number).
+// What an operation answers, as the one number that C and Rust get, and the word beside it where there is one. The
+// definitions stand beside each operation's; that of a step has its function there too (steps::answer_number).
 use disassemble::Disassembled;
 use machine::run::Stop;
 use reach::Reached;

@@ -40,4 +40,4 @@ unfoldable pub legendText : List ℕ
 legendText =
     ascii "r w t: the group reads it, writes it, uses it as a table; R W T: the rest does\n"
     ++ ascii "=: both read it; +: the group writes it or uses it as a table, the rest reads it\n"
-    ++ ascii "!: it spoils the verdict; .: nobody reaches it\n"
+    ++ ascii "!: it spoils the verdict; .: neither the group nor the rest reaches it\n"

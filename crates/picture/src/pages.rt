@@ -5,7 +5,7 @@ ghost use mathlib.Core.Path.{_≡_};
 ghost use Prim.Native.Nat.{_+_, _*_, _≤_, _<_, min};
 ghost use lib.ListN.{length};
 ghost use Rattle.text.specs.Text.{Put};
-ghost use Rattle.picture.specs.Pages as x;
+ghost use Rattle.picture.specs.Pages as pages;
 
 pub struct Tally {
     pub reached: u32,
@@ -14,19 +14,19 @@ pub struct Tally {
 }
 
 fn is_reached(byte: u8) -> bool
-    ensures { λ r. ⌜ r ≡ x.isReached byte ⌝ }
+    ensures { λ r. ⌜ r ≡ pages.isReached byte ⌝ }
 {
     byte != 0
 }
 
 fn is_written(byte: u8) -> bool
-    ensures { λ r. ⌜ r ≡ x.canWrite byte ⌝ }
+    ensures { λ r. ⌜ r ≡ pages.canWrite byte ⌝ }
 {
     byte / 4 % 2 == 1
 }
 
 fn is_table(byte: u8) -> bool
-    ensures { λ r. ⌜ r ≡ x.isTable byte ⌝ }
+    ensures { λ r. ⌜ r ≡ pages.isTable byte ⌝ }
 {
     byte / 2 % 2 == 1
 }
@@ -34,7 +34,7 @@ fn is_table(byte: u8) -> bool
 // How many pages of a map are reached, written and used as tables.
 pub fn tally_of(map: &[u8]) -> Tally
     requires { ⌜ length (now map) ≤ 4096 ⌝ }
-    ensures { λ r. ⌜ (r .reached ≡ x.countOf x.isReached (now (map .entry))) × (r .written ≡ x.countOf x.canWrite (now (map .entry))) × (r .tables ≡ x.countOf x.isTable (now (map .entry))) ⌝ }
+    ensures { λ r. ⌜ (r .reached ≡ pages.countOf pages.isReached (now (map .entry))) × (r .written ≡ pages.countOf pages.canWrite (now (map .entry))) × (r .tables ≡ pages.countOf pages.isTable (now (map .entry))) ⌝ }
 {
     let mut reached: u32 = 0;
     let mut written: u32 = 0;
@@ -56,14 +56,14 @@ pub fn tally_of(map: &[u8]) -> Tally
 
 // Whether a page spoils the verdict.
 fn spoils(own: u8, other: u8) -> bool
-    ensures { λ r. ⌜ r ≡ x.pageSpoils own other ⌝ }
+    ensures { λ r. ⌜ r ≡ pages.pageSpoils own other ⌝ }
 {
     let alone = (is_written(own) & is_table(own)) | (is_written(other) & is_table(other));
     alone | (is_reached(own) & (is_written(other) | is_table(other)))
 }
 
 fn letter(byte: u8, table: u8, write: u8, read: u8) -> u8
-    ensures { λ r. ⌜ r ≡ x.letterOf byte table write read ⌝ }
+    ensures { λ r. ⌜ r ≡ pages.letterOf byte table write read ⌝ }
 {
     if is_table(byte) {
         return table;
@@ -76,7 +76,7 @@ fn letter(byte: u8, table: u8, write: u8, read: u8) -> u8
 
 // The mark of a page.
 fn mark(own: u8, other: u8) -> u8
-    ensures { λ r. ⌜ r ≡ x.markOf own other ⌝ }
+    ensures { λ r. ⌜ r ≡ pages.markOf own other ⌝ }
 {
     if spoils(own, other) {
         return b'!';
@@ -99,7 +99,7 @@ fn mark(own: u8, other: u8) -> u8
 // The marks of n pages from page a on.
 fn put_marks(out: &mut [u8], at: usize, own: &[u8], other: &[u8], a: usize, n: usize) -> usize
     requires { ⌜ (at + n ≤ length (now out)) × (a + n ≤ length (now own)) × (a + n ≤ length (now other)) ⌝ }
-    ensures { λ r. ⌜ Put (now (out .entry)) at (x.markRow (now (own .entry)) (now (other .entry)) a n) r (now (out .exit)) × (r ≡ at + n) ⌝ }
+    ensures { λ r. ⌜ Put (now (out .entry)) at (pages.markRow (now (own .entry)) (now (other .entry)) a n) r (now (out .exit)) × (r ≡ at + n) ⌝ }
 {
     let mut i: usize = 0;
     while i < n {
@@ -118,7 +118,7 @@ fn up_to_64(n: usize) -> usize
 // Row n: at most 86 bytes.
 fn put_row(out: &mut [u8], at: usize, own: &[u8], other: &[u8], n: usize) -> usize
     requires { ⌜ (at + 86 ≤ length (now out)) × (64 * n < length (now own)) × (length (now other) ≡ length (now own)) × (n < 64) ⌝ }
-    ensures { λ r. ⌜ Put (now (out .entry)) at (x.row (now (own .entry)) (now (other .entry)) n) r (now (out .exit)) × (r ≤ at + 86) ⌝ }
+    ensures { λ r. ⌜ Put (now (out .entry)) at (pages.row (now (own .entry)) (now (other .entry)) n) r (now (out .exit)) × (r ≤ at + 86) ⌝ }
 {
     let first = 64 * n;
     let p = put_padded(out, at, first as u64, 4);
@@ -131,7 +131,7 @@ fn put_row(out: &mut [u8], at: usize, own: &[u8], other: &[u8], n: usize) -> usi
 // All rows: at most 64 of them.
 pub fn put_picture(out: &mut [u8], at: usize, own: &[u8], other: &[u8]) -> usize
     requires { ⌜ (at + 5504 ≤ length (now out)) × (length (now own) ≤ 4096) × (length (now other) ≡ length (now own)) ⌝ }
-    ensures { λ r. ⌜ Put (now (out .entry)) at (x.picture (now (own .entry)) (now (other .entry))) r (now (out .exit)) × (r ≤ at + 5504) ⌝ }
+    ensures { λ r. ⌜ Put (now (out .entry)) at (pages.picture (now (own .entry)) (now (other .entry))) r (now (out .exit)) × (r ≤ at + 5504) ⌝ }
 {
     let rows = (own.len() + 63) / 64;
     let mut n: usize = 0;

@@ -10,7 +10,7 @@ ghost use lib.ListN.{length};
 ghost use Rattle.text.specs.Text.{Put, decimal};
 ghost use Rattle.io.specs.Digits.{digits};
 ghost use Rattle.reasons.specs.Why.{firstWords, secondWords};
-ghost use Rattle.reason_lines.specs.Reasons as x;
+ghost use Rattle.reason_lines.specs.Reasons as lines;
 
 // What reasons::tell says of a way: its core, the page at fault and its level there, where the way begins (0 the page in pto, 1 a walk,
 // 2 a pending store) and the record's number, how many entries it goes through, and their addresses.
@@ -26,7 +26,7 @@ pub struct Way {
 }
 
 fn way_of(w: &[u32; 9]) -> Way
-    ensures { λ r. ⌜ r ≡ x.wayOf (now (w .entry)) ⌝ }
+    ensures { λ r. ⌜ r ≡ lines.wayOf (now (w .entry)) ⌝ }
 {
     Way {
         core: w[0],
@@ -69,7 +69,7 @@ fn put_with(out: &mut [u8], at: usize, before: &[u8], n: u32) -> usize
 
 fn put_pages_of(out: &mut [u8], at: usize, w: Way) -> usize
     requires { ⌜ at + 60 ≤ length (now out) ⌝ }
-    ensures { λ r. ⌜ Put (now (out .entry)) at (x.virtualText w) r (now (out .exit)) × (r ≤ at + 60) ⌝ }
+    ensures { λ r. ⌜ Put (now (out .entry)) at (lines.virtualText w) r (now (out .exit)) × (r ≤ at + 60) ⌝ }
 {
     let high = w.first / 4 % 1024 * 1024;
     if w.entries == 0 {
@@ -84,7 +84,7 @@ fn put_pages_of(out: &mut [u8], at: usize, w: Way) -> usize
 
 fn put_start(out: &mut [u8], at: usize, w: Way) -> usize
     requires { ⌜ at + 60 ≤ length (now out) ⌝ }
-    ensures { λ r. ⌜ Put (now (out .entry)) at (x.startText w) r (now (out .exit)) × (r ≤ at + 60) ⌝ }
+    ensures { λ r. ⌜ Put (now (out .entry)) at (lines.startText w) r (now (out .exit)) × (r ≤ at + 60) ⌝ }
 {
     if w.start == 0 {
         return put_pages_of(out, at, w);
@@ -97,7 +97,7 @@ fn put_start(out: &mut [u8], at: usize, w: Way) -> usize
 
 fn put_entries(out: &mut [u8], at: usize, w: Way) -> usize
     requires { ⌜ at + 42 ≤ length (now out) ⌝ }
-    ensures { λ r. ⌜ Put (now (out .entry)) at (x.entriesText w) r (now (out .exit)) × (r ≤ at + 42) ⌝ }
+    ensures { λ r. ⌜ Put (now (out .entry)) at (lines.entriesText w) r (now (out .exit)) × (r ≤ at + 42) ⌝ }
 {
     if w.entries == 0 {
         return at;
@@ -112,7 +112,7 @@ fn put_entries(out: &mut [u8], at: usize, w: Way) -> usize
 // A way, to the end of the line: at most 128 bytes.
 fn put_way(out: &mut [u8], at: usize, w: Way) -> usize
     requires { ⌜ at + 168 ≤ length (now out) ⌝ }
-    ensures { λ r. ⌜ Put (now (out .entry)) at (x.wayText w) r (now (out .exit)) × (r ≤ at + 128) ⌝ }
+    ensures { λ r. ⌜ Put (now (out .entry)) at (lines.wayText w) r (now (out .exit)) × (r ≤ at + 128) ⌝ }
 {
     let p = put_with(out, at, b"core ", w.core);
     let q = put_start(out, p, w);
@@ -123,7 +123,7 @@ fn put_way(out: &mut [u8], at: usize, w: Way) -> usize
 // What is done to a page, and by which way.
 fn put_spoil(out: &mut [u8], at: usize, does: &[u8], more: &[u8], w: Way) -> usize
     requires { ⌜ (at + 270 ≤ length (now out)) × (length (now does) ≤ 40) × (length (now more) ≤ 40) ⌝ }
-    ensures { λ r. ⌜ Put (now (out .entry)) at (x.spoilText (now (does .entry)) (now (more .entry)) w) r (now (out .exit)) × (r ≤ at + 228) ⌝ }
+    ensures { λ r. ⌜ Put (now (out .entry)) at (lines.spoilText (now (does .entry)) (now (more .entry)) w) r (now (out .exit)) × (r ≤ at + 228) ⌝ }
 {
     let p = put_with(out, at, does, w.page);
     let q = put(out, p, more);
@@ -132,7 +132,7 @@ fn put_spoil(out: &mut [u8], at: usize, does: &[u8], more: &[u8], w: Way) -> usi
 
 fn put_user(out: &mut [u8], at: usize, w: Way) -> usize
     requires { ⌜ at + 100 ≤ length (now out) ⌝ }
-    ensures { λ r. ⌜ Put (now (out .entry)) at (x.userText w) r (now (out .exit)) × (r ≤ at + 100) ⌝ }
+    ensures { λ r. ⌜ Put (now (out .entry)) at (lines.userText w) r (now (out .exit)) × (r ≤ at + 100) ⌝ }
 {
     let p = put_with(out, at, b"core ", w.core);
     put(out, p, b" is not running in user mode\n")
@@ -141,7 +141,7 @@ fn put_user(out: &mut [u8], at: usize, w: Way) -> usize
 // The line of reason n: at most 228 bytes.
 fn put_fault(out: &mut [u8], at: usize, n: u32, w: Way) -> usize
     requires { ⌜ at + 270 ≤ length (now out) ⌝ }
-    ensures { λ r. ⌜ Put (now (out .entry)) at (x.faultText n w) r (now (out .exit)) × (r ≤ at + 228) ⌝ }
+    ensures { λ r. ⌜ Put (now (out .entry)) at (lines.faultText n w) r (now (out .exit)) × (r ≤ at + 228) ⌝ }
 {
     if n == 1 {
         return put_user(out, at, w);
@@ -185,7 +185,7 @@ fn put_fault(out: &mut [u8], at: usize, n: u32, w: Way) -> usize
 // The second line of reason 6: at most 228 bytes.
 fn put_own(out: &mut [u8], at: usize, n: u32, v: Way) -> usize
     requires { ⌜ at + 270 ≤ length (now out) ⌝ }
-    ensures { λ r. ⌜ Put (now (out .entry)) at (x.ownText n v) r (now (out .exit)) × (r ≤ at + 228) ⌝ }
+    ensures { λ r. ⌜ Put (now (out .entry)) at (lines.ownText n v) r (now (out .exit)) × (r ≤ at + 228) ⌝ }
 {
     if n == 6 {
         return put_spoil(out, at, b"the group reaches page ", b": ", v);
@@ -196,7 +196,7 @@ fn put_own(out: &mut [u8], at: usize, n: u32, v: Way) -> usize
 // All of reason n, with both of its ways: at most 456 bytes.
 fn put_reason(out: &mut [u8], at: usize, n: u32, w: Way, v: Way) -> usize
     requires { ⌜ at + 498 ≤ length (now out) ⌝ }
-    ensures { λ r. ⌜ Put (now (out .entry)) at (x.reasonText n w v) r (now (out .exit)) × (r ≤ at + 456) ⌝ }
+    ensures { λ r. ⌜ Put (now (out .entry)) at (lines.reasonText n w v) r (now (out .exit)) × (r ≤ at + 456) ⌝ }
 {
     let p = put_fault(out, at, n, w);
     put_own(out, p, n, v)
@@ -205,7 +205,7 @@ fn put_reason(out: &mut [u8], at: usize, n: u32, w: Way, v: Way) -> usize
 // A reason by its number, as the words of its ways say it.
 pub fn put_told(out: &mut [u8], at: usize, n: u32, a: Reason) -> usize
     requires { ⌜ at + 498 ≤ length (now out) ⌝ }
-    ensures { λ r. ⌜ Put (now (out .entry)) at (x.reasonText n (x.wayOf (firstWords a)) (x.wayOf (secondWords a))) r (now (out .exit)) × (r ≤ at + 456) ⌝ }
+    ensures { λ r. ⌜ Put (now (out .entry)) at (lines.reasonText n (lines.wayOf (firstWords a)) (lines.wayOf (secondWords a))) r (now (out .exit)) × (r ≤ at + 456) ⌝ }
 {
     let mut first = [0u32; 9];
     let mut second = [0u32; 9];

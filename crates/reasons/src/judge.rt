@@ -15,13 +15,13 @@ ghost use lib.ListN.{length};
 ghost use Rattle.tables.specs.Views.{coresOf, pagesOf};
 ghost use Rattle.tables.specs.Sound.{sound};
 ghost use Rattle.reach.specs.Reach.{members, reach, inMemory, mapFor};
-ghost use Rattle.ways.specs.Ways as w;
-ghost use Rattle.reasons.specs.Why as x;
+ghost use Rattle.ways.specs.Ways as ways;
+ghost use Rattle.reasons.specs.Why as why;
 ghost use Rattle.ways.specs.inner.Search.{sought};
-ghost use Rattle.reasons.specs.inner.Judging as y;
+ghost use Rattle.reasons.specs.inner.Judging as judging;
 
 fn side_number(s: Side) -> u32
-    ensures { λ r. ⌜ (r ≡ x.sideNumber s) × (r < 2) ⌝ }
+    ensures { λ r. ⌜ (r ≡ why.sideNumber s) × (r < 2) ⌝ }
 {
     match s {
         Side::Group => 0,
@@ -31,8 +31,8 @@ fn side_number(s: Side) -> u32
 
 // The number for an answer.
 pub fn number(a: Reason) -> u32
-    requires { ⌜ x.whyNumber a < 2 ^ 32 ⌝ }
-    ensures { λ r. ⌜ r ≡ x.whyNumber a ⌝ }
+    requires { ⌜ why.whyNumber a < 2 ^ 32 ⌝ }
+    ensures { λ r. ⌜ r ≡ why.whyNumber a ⌝ }
 {
     match a {
         Reason::NoReason => 0,
@@ -47,7 +47,7 @@ pub fn number(a: Reason) -> u32
 // The first core, of the group or another running one, that is not running in user mode.
 fn modes(t: &[u32], group: u32) -> Reason
     requires { ⌜ (coresOf (now t) ≤ 4) × (32 + 256 * coresOf (now t) ≤ length (now t)) ⌝ }
-    ensures { λ r. ⌜ r ≡ x.modeReason group (now (t .entry)) ⌝ }
+    ensures { λ r. ⌜ r ≡ why.modeReason group (now (t .entry)) ⌝ }
 {
     let cores = t[CORES];
     let mut k: u32 = 0;
@@ -65,7 +65,7 @@ fn beyond(t: &[u32], m: &[u8], map: &[u8], group: u32, strays: bool) -> Found
     requires { ⌜ sound (now t) (length (now m)) ≡ true ⌝ }
     requires { ⌜ length (now map) ≡ pagesOf (now t) ⌝ }
     requires { ⌜ strays ≡ not (inMemory (reach (members group (coresOf (now t))) (now t) (now m)) (pagesOf (now t))) ⌝ }
-    ensures { λ r. ⌜ r ≡ y.beyondFound (members group (coresOf (now (t .entry)))) (now (t .entry)) (now (m .entry)) ⌝ }
+    ensures { λ r. ⌜ r ≡ judging.beyondFound (members group (coresOf (now (t .entry)))) (now (t .entry)) (now (m .entry)) ⌝ }
 {
     if strays {
         return find(t, m, Want { kind: 0, low: 0 }, map, group);
@@ -75,7 +75,7 @@ fn beyond(t: &[u32], m: &[u8], map: &[u8], group: u32, strays: bool) -> Found
 
 // Whether a page is at fault by its bytes in two maps: writable and a table (kind 1), or in the first map and writable or a table in the second.
 fn is_fault(kind: u32, own: u8, other: u8) -> bool
-    ensures { λ r. ⌜ r ≡ y.faultAt kind own other ⌝ }
+    ensures { λ r. ⌜ r ≡ judging.faultAt kind own other ⌝ }
 {
     if kind == 1 {
         return (own / 2 % 2 == 1) & (own / 4 % 2 == 1);
@@ -86,7 +86,7 @@ fn is_fault(kind: u32, own: u8, other: u8) -> bool
 // Marks the pages at fault, and gives the lowest of them; the number of pages where there is none.
 fn mark_faults(kind: u32, own: &[u8], other: &[u8], marks: &mut [u8]) -> u32
     requires { ⌜ (length (now own) ≡ length (now marks)) × (length (now other) ≡ length (now marks)) × (length (now marks) ≤ 4096) ⌝ }
-    ensures { λ r. ⌜ y.FaultsMarked kind (now (own .entry)) (now (other .entry)) (now (marks .entry)) (now (marks .exit)) r ⌝ }
+    ensures { λ r. ⌜ judging.FaultsMarked kind (now (own .entry)) (now (other .entry)) (now (marks .entry)) (now (marks .exit)) r ⌝ }
 {
     let mut i = marks.len();
     let mut low = i as u32;
@@ -114,7 +114,7 @@ fn marked(
 ) -> Found
     requires { ⌜ (sound (now t) (length (now m)) ≡ true) × (1 ≤ kind) × (kind ≤ 2) ⌝ }
     requires { ⌜ (length (now own) ≡ pagesOf (now t)) × (length (now other) ≡ pagesOf (now t)) × (length (now marks) ≡ pagesOf (now t)) ⌝ }
-    ensures { λ r. ⌜ r ≡ sought (y.faulty kind (pagesOf (now (t .entry))) (now (own .entry)) (now (other .entry))) (w.ways (members group (coresOf (now (t .entry)))) (now (t .entry)) (now (m .entry))) ⌝ }
+    ensures { λ r. ⌜ r ≡ sought (judging.faulty kind (pagesOf (now (t .entry))) (now (own .entry)) (now (other .entry))) (ways.ways (members group (coresOf (now (t .entry)))) (now (t .entry)) (now (m .entry))) ⌝ }
 {
     let low = mark_faults(kind, own, other, marks);
     if t[PAGES] <= low {
@@ -127,7 +127,7 @@ fn marked(
 fn at_fault(t: &[u32], m: &[u8], kind: u32, own: &[u8], other: &[u8], group: u32) -> Found
     requires { ⌜ (sound (now t) (length (now m)) ≡ true) × (1 ≤ kind) × (kind ≤ 2) ⌝ }
     requires { ⌜ (length (now own) ≡ pagesOf (now t)) × (length (now other) ≡ pagesOf (now t)) ⌝ }
-    ensures { λ r. ⌜ r ≡ sought (y.faulty kind (pagesOf (now (t .entry))) (now (own .entry)) (now (other .entry))) (w.ways (members group (coresOf (now (t .entry)))) (now (t .entry)) (now (m .entry))) ⌝ }
+    ensures { λ r. ⌜ r ≡ sought (judging.faulty kind (pagesOf (now (t .entry))) (now (own .entry)) (now (other .entry))) (ways.ways (members group (coresOf (now (t .entry)))) (now (t .entry)) (now (m .entry))) ⌝ }
 {
     let pages = t[PAGES] as usize;
     let mut marks = [0u8; MOST_PAGES];
@@ -138,7 +138,7 @@ fn at_fault(t: &[u32], m: &[u8], kind: u32, own: &[u8], other: &[u8], group: u32
 fn own_table(t: &[u32], m: &[u8], map: &[u8], group: u32) -> Found
     requires { ⌜ sound (now t) (length (now m)) ≡ true ⌝ }
     requires { ⌜ now map ≡ mapFor (members group (coresOf (now t))) (now t) (now m) ⌝ }
-    ensures { λ r. ⌜ r ≡ y.tableFound (members group (coresOf (now (t .entry)))) (now (t .entry)) (now (m .entry)) ⌝ }
+    ensures { λ r. ⌜ r ≡ judging.tableFound (members group (coresOf (now (t .entry)))) (now (t .entry)) (now (m .entry)) ⌝ }
 {
     at_fault(t, m, 1, map, map, group)
 }
@@ -148,14 +148,14 @@ fn touched(t: &[u32], m: &[u8], own: &[u8], other: &[u8], group: u32, others: u3
     requires { ⌜ sound (now t) (length (now m)) ≡ true ⌝ }
     requires { ⌜ now own ≡ mapFor (members group (coresOf (now t))) (now t) (now m) ⌝ }
     requires { ⌜ now other ≡ mapFor (members others (coresOf (now t))) (now t) (now m) ⌝ }
-    ensures { λ r. ⌜ r ≡ y.touchFound (members group (coresOf (now (t .entry)))) (members others (coresOf (now (t .entry)))) (now (t .entry)) (now (m .entry)) ⌝ }
+    ensures { λ r. ⌜ r ≡ judging.touchFound (members group (coresOf (now (t .entry)))) (members others (coresOf (now (t .entry)))) (now (t .entry)) (now (m .entry)) ⌝ }
 {
     at_fault(t, m, 2, own, other, others)
 }
 
 // A way as reason n, 2 to 5.
 fn as_reason(n: u32, found: Found) -> Reason
-    ensures { λ r. ⌜ r ≡ x.byWay (y.asReason n) found ⌝ }
+    ensures { λ r. ⌜ r ≡ why.byWay (judging.asReason n) found ⌝ }
 {
     match found {
         Found::Nothing => Reason::NoReason,
@@ -176,7 +176,7 @@ fn as_reason(n: u32, found: Found) -> Reason
 
 // A way of the rest and one of the group, where there is one, as reason 6.
 fn both_ways(way: Way, found: Found) -> Reason
-    ensures { λ r. ⌜ r ≡ x.byWay (Reason.Touches way) found ⌝ }
+    ensures { λ r. ⌜ r ≡ why.byWay (Reason.Touches way) found ⌝ }
 {
     match found {
         Found::Nothing => Reason::NoReason,
@@ -188,7 +188,7 @@ fn both_ways(way: Way, found: Found) -> Reason
 fn way_to(t: &[u32], m: &[u8], map: &[u8], group: u32, page: u32) -> Found
     requires { ⌜ sound (now t) (length (now m)) ≡ true ⌝ }
     requires { ⌜ length (now map) ≡ pagesOf (now t) ⌝ }
-    ensures { λ r. ⌜ r ≡ x.wayTo page (w.ways (members group (coresOf (now (t .entry)))) (now (t .entry)) (now (m .entry))) ⌝ }
+    ensures { λ r. ⌜ r ≡ why.wayTo page (ways.ways (members group (coresOf (now (t .entry)))) (now (t .entry)) (now (m .entry))) ⌝ }
 {
     find(t, m, Want { kind: 3, low: page }, map, group)
 }
@@ -198,7 +198,7 @@ fn touching(t: &[u32], m: &[u8], own: &[u8], other: &[u8], group: u32, others: u
     requires { ⌜ sound (now t) (length (now m)) ≡ true ⌝ }
     requires { ⌜ now own ≡ mapFor (members group (coresOf (now t))) (now t) (now m) ⌝ }
     requires { ⌜ now other ≡ mapFor (members others (coresOf (now t))) (now t) (now m) ⌝ }
-    ensures { λ r. ⌜ r ≡ x.touchReason (members group (coresOf (now (t .entry)))) (members others (coresOf (now (t .entry)))) (now (t .entry)) (now (m .entry)) ⌝ }
+    ensures { λ r. ⌜ r ≡ why.touchReason (members group (coresOf (now (t .entry)))) (members others (coresOf (now (t .entry)))) (now (t .entry)) (now (m .entry)) ⌝ }
 {
     match touched(t, m, own, other, group, others) {
         Found::Nothing => Reason::NoReason,
@@ -219,8 +219,8 @@ fn reason_at(
     n: u32,
 ) -> Reason
     requires { ⌜ sound (now t) (length (now m)) ≡ true ⌝ }
-    requires { ⌜ y.Sides group others (now t) (now m) (now own) (now other) strays astray ⌝ }
-    ensures { λ r. ⌜ r ≡ x.reasonAt group (now (t .entry)) (now (m .entry)) n ⌝ }
+    requires { ⌜ judging.Sides group others (now t) (now m) (now own) (now other) strays astray ⌝ }
+    ensures { λ r. ⌜ r ≡ why.reasonAt group (now (t .entry)) (now (m .entry)) n ⌝ }
 {
     if n == 1 {
         return modes(t, group);
@@ -242,7 +242,7 @@ fn reason_at(
 
 // Whether an answer is no reason.
 pub fn is_none(a: Reason) -> bool
-    ensures { λ r. ⌜ r ≡ y.isNone a ⌝ }
+    ensures { λ r. ⌜ r ≡ judging.isNone a ⌝ }
 {
     match a {
         Reason::NoReason => true,
@@ -267,8 +267,8 @@ pub fn first_after(
     after: u32,
 ) -> Reason
     requires { ⌜ sound (now t) (length (now m)) ≡ true ⌝ }
-    requires { ⌜ y.Sides group others (now t) (now m) (now own) (now other) strays astray ⌝ }
-    ensures { λ r. ⌜ r ≡ x.firstAfter group (now (t .entry)) (now (m .entry)) (6 - after) after ⌝ }
+    requires { ⌜ judging.Sides group others (now t) (now m) (now own) (now other) strays astray ⌝ }
+    ensures { λ r. ⌜ r ≡ why.firstAfter group (now (t .entry)) (now (m .entry)) (6 - after) after ⌝ }
 {
     let mut n = after;
     while n < 6 {
@@ -292,7 +292,7 @@ fn with_maps(
 ) -> Reason
     requires { ⌜ sound (now t) (length (now m)) ≡ true ⌝ }
     requires { ⌜ (length (now own) ≡ pagesOf (now t)) × (length (now other) ≡ pagesOf (now t)) ⌝ }
-    ensures { λ r. ⌜ r ≡ x.firstAfter group (now (t .entry)) (now (m .entry)) (6 - after) after ⌝ }
+    ensures { λ r. ⌜ r ≡ why.firstAfter group (now (t .entry)) (now (m .entry)) (6 - after) after ⌝ }
 {
     let others = separation::sides::rest(t, group);
     let strays = reach::fill(t, m, group, own);
@@ -303,7 +303,7 @@ fn with_maps(
 // The same with two maps of its own.
 pub(crate) fn judge(t: &[u32], m: &[u8], group: u32, after: u32) -> Reason
     requires { ⌜ sound (now t) (length (now m)) ≡ true ⌝ }
-    ensures { λ r. ⌜ r ≡ x.firstAfter group (now (t .entry)) (now (m .entry)) (6 - after) after ⌝ }
+    ensures { λ r. ⌜ r ≡ why.firstAfter group (now (t .entry)) (now (m .entry)) (6 - after) after ⌝ }
 {
     let pages = t[PAGES] as usize;
     let mut own = [0u8; MOST_PAGES];

@@ -4,10 +4,10 @@ use ways::Root;
 use ways::Way;
 ghost use mathlib.Core.Path.{_≡_};
 ghost use lib.ListN.{length};
-ghost use Rattle.reasons.specs.Why as x;
+ghost use Rattle.reasons.specs.Why as why;
 
 fn root_number(r: Root) -> u32
-    ensures { λ n. ⌜ n ≡ x.rootNumber r ⌝ }
+    ensures { λ n. ⌜ n ≡ why.rootNumber r ⌝ }
 {
     match r {
         Root::AtOrigin => 0,
@@ -17,7 +17,7 @@ fn root_number(r: Root) -> u32
 }
 
 fn record_number(r: Root) -> u32
-    ensures { λ n. ⌜ n ≡ x.recordNumber r ⌝ }
+    ensures { λ n. ⌜ n ≡ why.recordNumber r ⌝ }
 {
     match r {
         Root::AtOrigin => 0,
@@ -28,7 +28,7 @@ fn record_number(r: Root) -> u32
 
 fn put_way(words: &mut [u32], way: Way)
     requires { ⌜ length (now words) ≡ 9 ⌝ }
-    ensures { λ _. ⌜ now (words .exit) ≡ x.wayWords way ⌝ }
+    ensures { λ _. ⌜ now (words .exit) ≡ why.wayWords way ⌝ }
 {
     let root = way.root;
     words[0] = way.core;
@@ -44,7 +44,7 @@ fn put_way(words: &mut [u32], way: Way)
 
 fn put_core(words: &mut [u32], k: u32)
     requires { ⌜ length (now words) ≡ 9 ⌝ }
-    ensures { λ _. ⌜ now (words .exit) ≡ x.coreWords k ⌝ }
+    ensures { λ _. ⌜ now (words .exit) ≡ why.coreWords k ⌝ }
 {
     words[0] = k;
     words[1] = 0;
@@ -60,7 +60,7 @@ fn put_core(words: &mut [u32], k: u32)
 // Writes an answer, but for its second way.
 pub fn put(words: &mut [u32], a: Reason)
     requires { ⌜ length (now words) ≡ 9 ⌝ }
-    ensures { λ _. ⌜ now (words .exit) ≡ x.firstWords a ⌝ }
+    ensures { λ _. ⌜ now (words .exit) ≡ why.firstWords a ⌝ }
 {
     match a {
         Reason::NoReason => put_core(words, 0),
@@ -75,7 +75,7 @@ pub fn put(words: &mut [u32], a: Reason)
 // Writes the second way of an answer, or zeros where it has none.
 pub fn put_second(words: &mut [u32], a: Reason)
     requires { ⌜ length (now words) ≡ 9 ⌝ }
-    ensures { λ _. ⌜ now (words .exit) ≡ x.secondWords a ⌝ }
+    ensures { λ _. ⌜ now (words .exit) ≡ why.secondWords a ⌝ }
 {
     match a {
         Reason::NoReason => put_core(words, 0),
@@ -90,7 +90,7 @@ pub fn put_second(words: &mut [u32], a: Reason)
 // Writes an answer with both of its ways.
 pub(crate) fn put_both(words: &mut [u32], a: Reason)
     requires { ⌜ length (now words) ≡ 18 ⌝ }
-    ensures { λ _. ⌜ now (words .exit) ≡ x.whyWords a ⌝ }
+    ensures { λ _. ⌜ now (words .exit) ≡ why.whyWords a ⌝ }
 {
     put(&mut words[..9], a);
     put_second(&mut words[9..], a);

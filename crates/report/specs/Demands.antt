@@ -3,9 +3,11 @@
 --
 -- To be believed are the report's side (Configuration, Components, Delta), the view, what a step needs (Needs), this file, and the definitions that these
 -- share with the machine:
--- of numbers and lists alone: words, bits and bytes, withBit among them (word); decoded and the mnemonics, a table's lines, alucon, overflow, lop, rop, user, asid,
--- ea, d, sv, signals, causes and deltaCore (decode, units, isa); the fields of walks, addresses and entries, winit, wext, wextFault, set-d, complete, hit and ptea (tlb); sbhit, sbv, sbhazard, isPort,
--- apicadr and ioapicadr (store_buffer); least and someUpTo (vector_register); there, localPort, ioPort, among and same (records);
+-- of numbers and lists alone: words, bits and bytes, withBit among them (word); decoded and the mnemonics, a table's
+-- lines, alucon, overflow, lop, rop, user, asid, ea, d, sv, signals, causes and deltaCore (decode, units, isa); the
+-- fields of walks, addresses and entries, winit, wext, wextFault, set-d, complete, hit and ptea (tlb); sbhit, sbv,
+-- sbhazard, isPort, apicadr and ioapicadr (store_buffer); least and someUpTo (vector_register); there, localPort,
+-- ioPort, among and same (records);
 -- of words: stepOf, the form of a step (steps); the views of words, sound and made (tables); stores and walks (records).
 -- That they are not empty is shown in claims: made tables are sound, and there are steps that are accepted and steps refused 5 to 9.
 --

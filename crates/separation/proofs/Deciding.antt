@@ -6,7 +6,6 @@ use mathlib.Core.List.{List, [], _∷_, _++_}
 use Prim.Native.Nat.{ℕ, zero, suc, _+_, _<_, _≤_}
 use native.Mathlib.Numerals.{add-one}
 use native.Mathlib.Omega.{arith}
-use native.Mathlib.Decide.{ℕ-discrete}
 use mir.Val.{boolByte}
 use lib.ListN.{length, getD, take, replicate, length-replicate}
 use lib.Seq.{length-take-le}
@@ -16,16 +15,16 @@ use Rattle.word.specs.Word.{isSet, flag, if_then_else_, withBit}
 use Rattle.word.proofs.Truth.{and-left, and-right, and-both, tested, and-true, clash}
 use Rattle.layout.specs.Blocks.{block}
 use Rattle.records.specs.Records.{all}
-use Rattle.records.proofs.Counts.{all-and, either}
+use Rattle.records.proofs.Counts.{all-and}
 use Rattle.tables.specs.Views.{coresOf, pagesOf, runs}
 use Rattle.tables.specs.Sound.{sound}
-use Rattle.word.proofs.Bits.{bit-same, bit-other}
 use Rattle.reach.specs.Lists.{range, has, select}
 use Rattle.reach.specs.Reach.{Pages, isGroup, members, tablePages, reached, reach, inMemory, mapByte, mapFor}
-use Rattle.reach.proofs.Lists.{In, in-right, in-range, range-in, all-in, in-all, all-append, both-ways, has-append, select-same}
+use Rattle.reach.proofs.Lists.{In, in-right, in-range, range-in, all-in, in-all, all-append, both-ways, has-append}
 use Rattle.separation.specs.Apart.{runningCores, rest, restBelow, restGroup, runsAsUser, disjoint, closed, pagesApart, apart, apartOn}
 use Rattle.separation.specs.declared.Verdict.the-variants.{Yes, No, Refused}
 use Rattle.separation.specs.inner.Sides.{passes, both, pageApart}
+use Rattle.separation.proofs.Members.{Bits, bits-none, bits-next, bits-members, byte-flag}
 use Rattle.separation.proofs.Mapped.{marked-is, byte-in, byte-table, byte-writable, reached-low}
 
 -- ---- tests of all
@@ -80,38 +79,6 @@ select-select f g (x ∷ l) = go (g x) (f x) (select-select f g l)
 abbrev pub isOther : ℕ → List ℕ → ℕ → Bool
 isOther g t j = not (isSet g j) && runs (block t j)
 
--- a number whose bits up to k say which of the first k cores are other running cores
-record Others (g : ℕ) (t : List ℕ) (r k : ℕ) : Type 0 where
-  bits : (j : ℕ) → j < k → isSet r j ≡ isOther g t j
-
-others-none : (g : ℕ) (t : List ℕ) (r : ℕ) → Others g t r 0
-others-none g t r = record { bits = λ j h. absurd (omega arith) }
-
-flag-small : (b : Bool) → flag b < 2
-flag-small true = omega arith
-flag-small false = omega arith
-
-flag-bit : (b : Bool) → eqb (flag b) 1 ≡ b
-flag-bit true = refl
-flag-bit false = refl
-
-others-next : (g : ℕ) (t : List ℕ) (r k : ℕ) → Others g t r k → Others g t (withBit r k (flag (isOther g t k))) (k + 1)
-others-next g t r k o =
-    record {
-      bits = λ j h. either (ℕ-discrete j k)
-          (λ e. subst (λ (i : ℕ). isSet (withBit r k (flag (isOther g t k))) i ≡ isOther g t i) (sym e)
-          (ap (λ (x : ℕ). eqb x 1) (bit-same r k (flag (isOther g t k)) (flag-small (isOther g t k))) ∙ flag-bit (isOther g t k)))
-          (λ d. ap (λ (x : ℕ). eqb x 1) (bit-other r k (flag (isOther g t k)) (flag-small (isOther g t k)) j d) ∙ o .bits j (omega arith));
-    }
-
-pub byte-small : (b : Bool) → boolByte b < 2
-byte-small true = omega arith
-byte-small false = omega arith
-
-byte-flag : (b : Bool) → boolByte b ≡ flag b
-byte-flag true = refl
-byte-flag false = refl
-
 -- the bit that the code puts
 pub rest-put : (g : ℕ) (t : List ℕ) (k : ℕ) {r s : ℕ} {i u : Bool} → i ≡ isSet g k → u ≡ runs (block t k) → s ≡ withBit r k (boolByte (not i && u)) → r ≡ restBelow g t k
     → s ≡ restBelow g t (k + 1)
@@ -119,16 +86,17 @@ unfolding restBelow
 rest-put g t k {r} {s} {i} {u} p q e o =
     e ∙ ap₂ (λ (n : ℕ) (x : ℕ). withBit n k x) o (byte-flag (not i && u) ∙ ap₂ (λ (a b : Bool). flag (not a && b)) p q) ∙ ap (restBelow g t) (sym (add-one k))
 
-others-below : (g : ℕ) (t : List ℕ) (k : ℕ) → Others g t (restBelow g t k) k
+others-below : (g : ℕ) (t : List ℕ) (k : ℕ) → Bits (isOther g t) (restBelow g t k) k
 unfolding restBelow
-others-below g t zero = others-none g t 0
-others-below g t (suc k) = subst (Others g t (restBelow g t (suc k))) (add-one k) (others-next g t (restBelow g t k) k (others-below g t k))
+others-below g t zero = bits-none (isOther g t) 0
+others-below g t (suc k) =
+    subst (Bits (isOther g t) (restBelow g t (suc k))) (add-one k) (bits-next (isOther g t) (restBelow g t k) k (others-below g t k))
 
 -- the number has the rest as its members
 pub rest-members : (g : ℕ) (t : List ℕ) → members (restGroup g t) (coresOf t) ≡ rest g t
-unfolding members rest runningCores
+unfolding rest runningCores
 rest-members g t =
-    select-same (λ j. isSet (restGroup g t) j) (isOther g t) (range (coresOf t)) (λ j h. others-below g t (coresOf t) .bits j (range-in (coresOf t) j h))
+    bits-members (isOther g t) (restGroup g t) (coresOf t) (others-below g t (coresOf t))
     ∙ sym (select-select (λ j. not (isSet g j)) (λ j. runs (block t j)) (range (coresOf t)))
 
 -- every core of both sides is running in user mode

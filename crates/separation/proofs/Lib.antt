@@ -9,4 +9,5 @@ pub mod Closing
 pub mod Mapped
 pub mod Conditions
 pub mod Separation
+pub mod Members
 pub mod Deciding

@@ -23,13 +23,13 @@ ghost use Rattle.records.specs.Records.{all, small, chainAt, linked};
 ghost use Rattle.tables.specs.Views.{coresOf, pagesOf};
 ghost use Rattle.tables.specs.Sound.{sound};
 ghost use Rattle.reach.specs.Reach.{members};
-ghost use Rattle.ways.specs.Ways as w;
-ghost use Rattle.ways.specs.inner.Search as y;
+ghost use Rattle.ways.specs.Ways as ways;
+ghost use Rattle.ways.specs.inner.Search as search;
 
 // The way that ends at a pending store or a walk of core k, in record n.
 fn record_way(b: &[u32], k: u32, store: bool, n: u32) -> Way
     requires { ⌜ (length (now b) ≡ 256) × (n < 32) ⌝ }
-    ensures { λ r. ⌜ r ≡ w.rootWay (now (b .entry)) k (y.recordRoot store n) ⌝ }
+    ensures { λ r. ⌜ r ≡ ways.rootWay (now (b .entry)) k (search.recordRoot store n) ⌝ }
 {
     let i = RECORDS + RECORD_WORDS * (n as usize);
     let one = b[i + 1];
@@ -78,8 +78,8 @@ fn from_chain(
 ) -> Found
     requires { ⌜ (length (now m) ≡ 4096 * pages) × (pages ≤ 4096) × (length (now map) ≡ pages) × (length (now seen) ≡ 4096) ⌝ }
     requires { ⌜ (length (now b) ≡ 256) × (head < 256) × (all small (chainAt (now b) head) ≡ true) ⌝ }
-    requires { ⌜ y.Known (y.wanted want pages (now map)) (now m) (now seen) best ⌝ }
-    ensures { λ r. ⌜ y.Searched (y.wanted want pages (now (map .entry))) (now (m .entry)) best (now (seen .entry)) r (now (seen .exit)) (flatMap (y.recordWays (now (m .entry)) (now (b .entry)) k store) (chainAt (now (b .entry)) head)) ⌝ }
+    requires { ⌜ search.Known (search.wanted want pages (now map)) (now m) (now seen) best ⌝ }
+    ensures { λ r. ⌜ search.Searched (search.wanted want pages (now (map .entry))) (now (m .entry)) best (now (seen .entry)) r (now (seen .exit)) (flatMap (search.recordWays (now (m .entry)) (now (b .entry)) k store) (chainAt (now (b .entry)) head)) ⌝ }
 {
     let mut found = best;
     let mut n = b[head];
@@ -109,8 +109,8 @@ fn from_block(
 ) -> Found
     requires { ⌜ (length (now m) ≡ 4096 * pages) × (pages ≤ 4096) × (length (now map) ≡ pages) × (length (now seen) ≡ 4096) ⌝ }
     requires { ⌜ (length (now b) ≡ 256) × (linked (now b) ≡ true) ⌝ }
-    requires { ⌜ y.Known (y.wanted want pages (now map)) (now m) (now seen) best ⌝ }
-    ensures { λ r. ⌜ y.Searched (y.wanted want pages (now (map .entry))) (now (m .entry)) best (now (seen .entry)) r (now (seen .exit)) (y.blockWays (now (m .entry)) (now (b .entry)) k) ⌝ }
+    requires { ⌜ search.Known (search.wanted want pages (now map)) (now m) (now seen) best ⌝ }
+    ensures { λ r. ⌜ search.Searched (search.wanted want pages (now (map .entry))) (now (m .entry)) best (now (seen .entry)) r (now (seen .exit)) (search.blockWays (now (m .entry)) (now (b .entry)) k) ⌝ }
 {
     let page = tlb::origin(b);
     let way = Way {
@@ -144,8 +144,8 @@ fn from_core(
 ) -> Found
     requires { ⌜ (length (now m) ≡ 4096 * pages) × (pages ≤ 4096) × (length (now map) ≡ pages) × (length (now seen) ≡ 4096) ⌝ }
     requires { ⌜ (k < 4) × (blockAt k + blockWords ≤ length (now t)) × (linked (block (now t) k) ≡ true) ⌝ }
-    requires { ⌜ y.Known (y.wanted want pages (now map)) (now m) (now seen) best ⌝ }
-    ensures { λ r. ⌜ y.Searched (y.wanted want pages (now (map .entry))) (now (m .entry)) best (now (seen .entry)) r (now (seen .exit)) (y.memberWays group (now (t .entry)) (now (m .entry)) k) ⌝ }
+    requires { ⌜ search.Known (search.wanted want pages (now map)) (now m) (now seen) best ⌝ }
+    ensures { λ r. ⌜ search.Searched (search.wanted want pages (now (map .entry))) (now (m .entry)) best (now (seen .entry)) r (now (seen .exit)) (search.memberWays group (now (t .entry)) (now (m .entry)) k) ⌝ }
 {
     if word::shift_right(group, k) % 2 == 1 {
         return from_block(m, want, pages, map, layout::block(t, k), k, best, seen);
@@ -165,8 +165,8 @@ fn from_cores(
 ) -> Found
     requires { ⌜ sound (now t) (length (now m)) ≡ true ⌝ }
     requires { ⌜ (pages ≡ pagesOf (now t)) × (length (now map) ≡ pages) × (length (now seen) ≡ 4096) ⌝ }
-    requires { ⌜ y.Known (y.wanted want pages (now map)) (now m) (now seen) Found.Nothing ⌝ }
-    ensures { λ r. ⌜ r ≡ y.sought (y.wanted want pages (now (map .entry))) (w.ways (members group (coresOf (now (t .entry)))) (now (t .entry)) (now (m .entry))) ⌝ }
+    requires { ⌜ search.Known (search.wanted want pages (now map)) (now m) (now seen) Found.Nothing ⌝ }
+    ensures { λ r. ⌜ r ≡ search.sought (search.wanted want pages (now (map .entry))) (ways.ways (members group (coresOf (now (t .entry)))) (now (t .entry)) (now (m .entry))) ⌝ }
 {
     let cores = t[CORES];
     let mut found = Found::Nothing;
@@ -182,7 +182,7 @@ fn from_cores(
 pub fn find(t: &[u32], m: &[u8], want: Want, map: &[u8], group: u32) -> Found
     requires { ⌜ sound (now t) (length (now m)) ≡ true ⌝ }
     requires { ⌜ length (now map) ≡ pagesOf (now t) ⌝ }
-    ensures { λ r. ⌜ r ≡ y.sought (y.wanted want (pagesOf (now (t .entry))) (now (map .entry))) (w.ways (members group (coresOf (now (t .entry)))) (now (t .entry)) (now (m .entry))) ⌝ }
+    ensures { λ r. ⌜ r ≡ search.sought (search.wanted want (pagesOf (now (t .entry))) (now (map .entry))) (ways.ways (members group (coresOf (now (t .entry)))) (now (t .entry)) (now (m .entry))) ⌝ }
 {
     let pages = t[PAGES];
     let mut seen = [0u8; MOST_PAGES];

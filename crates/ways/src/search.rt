@@ -10,11 +10,11 @@ ghost use lib.ListN.{length};
 ghost use Rattle.tlb.specs.declared.Entry.{Entry};
 ghost use Rattle.tlb.specs.Walks.{pteR, pteBa};
 ghost use Rattle.reach.specs.Reach.{grantsWrite};
-ghost use Rattle.ways.specs.Ways as w;
-ghost use Rattle.ways.specs.inner.Search as y;
+ghost use Rattle.ways.specs.Ways as ways;
+ghost use Rattle.ways.specs.inner.Search as search;
 
-// What is looked for: pages from `low` on that are beyond memory (kind 0), or that the map marks, by a way that grants write
-// (kind 1), by a way that grants write or comes to a table (else); or the page `low` itself, by any way (kind 3).
+// What is looked for: pages from `low` on that are beyond memory (kind 0), or that the map marks, by a way that grants
+// write (kind 1), by a way that grants write or comes to a table (else); or the page `low` itself, by any way (kind 3).
 pub struct Want {
     pub kind: u32,
     pub low: u32,
@@ -23,7 +23,7 @@ pub struct Want {
 // Whether a page is looked for, by what names it.
 fn is_wanted(want: Want, pages: u32, map: &[u8], names: Named) -> bool
     requires { ⌜ length (now map) ≡ pages ⌝ }
-    ensures { λ r. ⌜ r ≡ y.wanted want pages (now (map .entry)) names ⌝ }
+    ensures { λ r. ⌜ r ≡ search.wanted want pages (now (map .entry)) names ⌝ }
 {
     let page = names.page;
     let kind = want.kind;
@@ -49,7 +49,7 @@ fn is_wanted(want: Want, pages: u32, map: &[u8], names: Named) -> bool
 
 // Whether nothing lower can be found.
 fn is_lowest(best: Found, low: u32) -> bool
-    ensures { λ r. ⌜ r ≡ y.isLowest best low ⌝ }
+    ensures { λ r. ⌜ r ≡ search.isLowest best low ⌝ }
 {
     match best {
         Found::Nothing => false,
@@ -59,7 +59,7 @@ fn is_lowest(best: Found, low: u32) -> bool
 
 // A way where it is lower than the best so far.
 fn lower(best: Found, way: Way) -> Found
-    ensures { λ r. ⌜ r ≡ w.lower best (Found.Lowest way) ⌝ }
+    ensures { λ r. ⌜ r ≡ ways.lower best (Found.Lowest way) ⌝ }
 {
     match best {
         Found::Nothing => Found::Lowest(way),
@@ -75,7 +75,7 @@ fn lower(best: Found, way: Way) -> Found
 // The same where it is looked for.
 fn take(want: Want, pages: u32, map: &[u8], way: Way, best: Found) -> Found
     requires { ⌜ length (now map) ≡ pages ⌝ }
-    ensures { λ r. ⌜ r ≡ w.lower best (y.sought (y.wanted want pages (now (map .entry))) (way ∷ [])) ⌝ }
+    ensures { λ r. ⌜ r ≡ ways.lower best (search.sought (search.wanted want pages (now (map .entry))) (way ∷ [])) ⌝ }
 {
     if is_wanted(want, pages, map, way.names) {
         return lower(best, way);
@@ -86,7 +86,7 @@ fn take(want: Want, pages: u32, map: &[u8], way: Way, best: Found) -> Found
 // What a present entry names, of a table of this level.
 fn named(level: u32, e: u32) -> Named
     requires { ⌜ 1 ≤ level ⌝ }
-    ensures { λ r. ⌜ r ≡ w.naming (level - 1) (pteBa e) (grantsWrite (pteR e)) ⌝ }
+    ensures { λ r. ⌜ r ≡ ways.naming (level - 1) (pteBa e) (grantsWrite (pteR e)) ⌝ }
 {
     Named {
         level: level - 1,
@@ -98,7 +98,7 @@ fn named(level: u32, e: u32) -> Named
 // A way that goes on by an entry.
 fn further(way: Way, i: u32, names: Named) -> Way
     requires { ⌜ (way .entries < 2) × (i < 1024) ⌝ }
-    ensures { λ r. ⌜ r ≡ w.further way i names ⌝ }
+    ensures { λ r. ⌜ r ≡ ways.further way i names ⌝ }
 {
     let root = way.root;
     let at = way.names.page % 0x100000 * 0x1000 + 4 * i;
@@ -125,7 +125,7 @@ fn further(way: Way, i: u32, names: Named) -> Way
 // Whether an entry of a table of this level names a page that is looked for.
 fn is_hit(want: Want, pages: u32, map: &[u8], level: u32, e: u32) -> bool
     requires { ⌜ (length (now map) ≡ pages) × (1 ≤ level) ⌝ }
-    ensures { λ r. ⌜ r ≡ y.hits (y.wanted want pages (now (map .entry))) level e ⌝ }
+    ensures { λ r. ⌜ r ≡ search.hits (search.wanted want pages (now (map .entry))) level e ⌝ }
 {
     if tlb::present(e) {
         return is_wanted(want, pages, map, named(level, e));
@@ -136,7 +136,7 @@ fn is_hit(want: Want, pages: u32, map: &[u8], level: u32, e: u32) -> bool
 // The way that goes on by entry i, whose word is e.
 fn take_entry(way: Way, i: u32, e: u32, best: Found) -> Found
     requires { ⌜ (way .entries < 2) × (1 ≤ way .names .level) × (i < 1024) ⌝ }
-    ensures { λ r. ⌜ r ≡ w.lower best (Found.Lowest (w.further way i (w.naming (way .names .level - 1) (pteBa e) (grantsWrite (pteR e))))) ⌝ }
+    ensures { λ r. ⌜ r ≡ ways.lower best (Found.Lowest (ways.further way i (ways.naming (way .names .level - 1) (pteBa e) (grantsWrite (pteR e))))) ⌝ }
 {
     lower(best, further(way, i, named(way.names.level, e)))
 }
@@ -145,7 +145,7 @@ fn take_entry(way: Way, i: u32, e: u32, best: Found) -> Found
 fn scan(m: &[u8], want: Want, pages: u32, map: &[u8], way: Way, best: Found) -> Found
     requires { ⌜ (length (now m) ≡ 4096 * pages) × (pages ≤ 4096) × (length (now map) ≡ pages) ⌝ }
     requires { ⌜ (way .names .page % 2 ^ 20 < pages) × (way .entries < 2) × (1 ≤ way .names .level) ⌝ }
-    ensures { λ r. ⌜ r ≡ w.lower best (y.sought (y.wanted want pages (now (map .entry))) (w.nextWays (now (m .entry)) way)) ⌝ }
+    ensures { λ r. ⌜ r ≡ ways.lower best (search.sought (search.wanted want pages (now (map .entry))) (ways.nextWays (now (m .entry)) way)) ⌝ }
 {
     let start = 4096 * ((way.names.page % 0x100000) as usize);
     let level = way.names.level;
@@ -173,8 +173,8 @@ fn scan_once(
 ) -> Found
     requires { ⌜ (length (now m) ≡ 4096 * pages) × (pages ≤ 4096) × (length (now map) ≡ pages) × (length (now seen) ≡ 4096) ⌝ }
     requires { ⌜ (way .entries < 2) × (way .names .level ≡ 1) ⌝ }
-    requires { ⌜ y.Known (y.wanted want pages (now map)) (now m) (now seen) best ⌝ }
-    ensures { λ r. ⌜ y.Searched (y.wanted want pages (now (map .entry))) (now (m .entry)) best (now (seen .entry)) r (now (seen .exit)) (w.nextWays (now (m .entry)) way) ⌝ }
+    requires { ⌜ search.Known (search.wanted want pages (now map)) (now m) (now seen) best ⌝ }
+    ensures { λ r. ⌜ search.Searched (search.wanted want pages (now (map .entry))) (now (m .entry)) best (now (seen .entry)) r (now (seen .exit)) (ways.nextWays (now (m .entry)) way) ⌝ }
 {
     if is_lowest(best, want.low) {
         return best;
@@ -203,8 +203,8 @@ fn from_second(
 ) -> Found
     requires { ⌜ (length (now m) ≡ 4096 * pages) × (pages ≤ 4096) × (length (now map) ≡ pages) × (length (now seen) ≡ 4096) ⌝ }
     requires { ⌜ (way .entries < 2) × (way .names .level ≡ 1) ⌝ }
-    requires { ⌜ y.Known (y.wanted want pages (now map)) (now m) (now seen) best ⌝ }
-    ensures { λ r. ⌜ y.Searched (y.wanted want pages (now (map .entry))) (now (m .entry)) best (now (seen .entry)) r (now (seen .exit)) (w.onward (now (m .entry)) 1 way) ⌝ }
+    requires { ⌜ search.Known (search.wanted want pages (now map)) (now m) (now seen) best ⌝ }
+    ensures { λ r. ⌜ search.Searched (search.wanted want pages (now (map .entry))) (now (m .entry)) best (now (seen .entry)) r (now (seen .exit)) (ways.onward (now (m .entry)) 1 way) ⌝ }
 {
     let found = take(want, pages, map, way, best);
     scan_once(m, want, pages, map, way, found, seen)
@@ -224,8 +224,8 @@ fn from_entry(
 ) -> Found
     requires { ⌜ (length (now m) ≡ 4096 * pages) × (pages ≤ 4096) × (length (now map) ≡ pages) × (length (now seen) ≡ 4096) ⌝ }
     requires { ⌜ (way .entries ≡ 0) × (way .names .level ≡ 2) × (i < 1024) ⌝ }
-    requires { ⌜ y.Known (y.wanted want pages (now map)) (now m) (now seen) best ⌝ }
-    ensures { λ r. ⌜ y.Searched (y.wanted want pages (now (map .entry))) (now (m .entry)) best (now (seen .entry)) r (now (seen .exit)) (y.throughEntry (now (m .entry)) way i (Entry.Word e)) ⌝ }
+    requires { ⌜ search.Known (search.wanted want pages (now map)) (now m) (now seen) best ⌝ }
+    ensures { λ r. ⌜ search.Searched (search.wanted want pages (now (map .entry))) (now (m .entry)) best (now (seen .entry)) r (now (seen .exit)) (search.throughEntry (now (m .entry)) way i (Entry.Word e)) ⌝ }
 {
     if tlb::present(e) {
         let names = named(way.names.level, e);
@@ -247,8 +247,8 @@ fn from_entries(
 ) -> Found
     requires { ⌜ (length (now m) ≡ 4096 * pages) × (pages ≤ 4096) × (length (now map) ≡ pages) × (length (now seen) ≡ 4096) ⌝ }
     requires { ⌜ (way .names .page % 2 ^ 20 < pages) × (way .entries ≡ 0) × (way .names .level ≡ 2) ⌝ }
-    requires { ⌜ y.Known (y.wanted want pages (now map)) (now m) (now seen) best ⌝ }
-    ensures { λ r. ⌜ y.Searched (y.wanted want pages (now (map .entry))) (now (m .entry)) best (now (seen .entry)) r (now (seen .exit)) (flatMap (w.onward (now (m .entry)) 1) (w.nextWays (now (m .entry)) way)) ⌝ }
+    requires { ⌜ search.Known (search.wanted want pages (now map)) (now m) (now seen) best ⌝ }
+    ensures { λ r. ⌜ search.Searched (search.wanted want pages (now (map .entry))) (now (m .entry)) best (now (seen .entry)) r (now (seen .exit)) (flatMap (ways.onward (now (m .entry)) 1) (ways.nextWays (now (m .entry)) way)) ⌝ }
 {
     let start = 4096 * ((way.names.page % 0x100000) as usize);
     let mut found = best;
@@ -273,8 +273,8 @@ fn from_first(
 ) -> Found
     requires { ⌜ (length (now m) ≡ 4096 * pages) × (pages ≤ 4096) × (length (now map) ≡ pages) × (length (now seen) ≡ 4096) ⌝ }
     requires { ⌜ (way .entries ≡ 0) × (way .names .level ≡ 2) ⌝ }
-    requires { ⌜ y.Known (y.wanted want pages (now map)) (now m) (now seen) best ⌝ }
-    ensures { λ r. ⌜ y.Searched (y.wanted want pages (now (map .entry))) (now (m .entry)) best (now (seen .entry)) r (now (seen .exit)) (w.onward (now (m .entry)) 2 way) ⌝ }
+    requires { ⌜ search.Known (search.wanted want pages (now map)) (now m) (now seen) best ⌝ }
+    ensures { λ r. ⌜ search.Searched (search.wanted want pages (now (map .entry))) (now (m .entry)) best (now (seen .entry)) r (now (seen .exit)) (ways.onward (now (m .entry)) 2 way) ⌝ }
 {
     let found = take(want, pages, map, way, best);
     if way.names.page % 0x100000 < pages {
@@ -284,7 +284,7 @@ fn from_first(
 }
 
 // A way that ends where it begins, and all that go on from it.
-pub fn from_root(
+pub(crate) fn from_root(
     m: &[u8],
     want: Want,
     pages: u32,
@@ -295,8 +295,8 @@ pub fn from_root(
 ) -> Found
     requires { ⌜ (length (now m) ≡ 4096 * pages) × (pages ≤ 4096) × (length (now map) ≡ pages) × (length (now seen) ≡ 4096) ⌝ }
     requires { ⌜ way .entries ≡ 0 ⌝ }
-    requires { ⌜ y.Known (y.wanted want pages (now map)) (now m) (now seen) best ⌝ }
-    ensures { λ r. ⌜ y.Searched (y.wanted want pages (now (map .entry))) (now (m .entry)) best (now (seen .entry)) r (now (seen .exit)) (w.allFrom (now (m .entry)) way) ⌝ }
+    requires { ⌜ search.Known (search.wanted want pages (now map)) (now m) (now seen) best ⌝ }
+    ensures { λ r. ⌜ search.Searched (search.wanted want pages (now (map .entry))) (now (m .entry)) best (now (seen .entry)) r (now (seen .exit)) (ways.allFrom (now (m .entry)) way) ⌝ }
 {
     let level = way.names.level;
     if level == 0 {

@@ -1,5 +1,6 @@
--- What the functions of the judge answer: pages at fault by their bytes in two maps, and what each reason finds. It serves the
--- contracts inside this crate alone; those of why and tell speak of specs/Why.antt only (proofs/Reasons ties the two).
+-- What the functions of the judge answer: pages at fault by their bytes in two maps, and what each reason finds. It
+-- serves the contracts inside this crate alone; those of why and tell speak of specs/Why.antt only (proofs/Reasons ties
+-- the two).
 -- Assumes nothing.
 use mathlib.Core.Path.{_≡_}
 use mathlib.Core.Bool.{Bool, true, _&&_, _||_, not}

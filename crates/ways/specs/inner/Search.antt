@@ -1,5 +1,6 @@
 -- How the code searches: each way that is looked for is held against the lowest so far, and a second-level table is gone
--- through once. It serves contracts inside alone (`find` ends with `sought`, which is the lowest of the ways selected).
+-- through once. Contracts of `ways` and of the judge in `reasons` alone speak of it: `find` ends with `sought`, the
+-- lowest of the ways selected, and `find-faulty` and `itself-is` (reasons, proofs/Reasons) tie it to specs/Why.antt.
 -- Assumes nothing.
 use mathlib.Core.Path.{_≡_}
 use mathlib.Core.Bool.{Bool, true, false, _&&_, _||_, not}
@@ -22,9 +23,9 @@ use Rattle.ways.specs.declared.Found.{Found}
 use Rattle.ways.specs.declared.Found.the-variants.{Nothing, Lowest}
 use Rattle.ways.specs.Ways.{naming, roots, entryNamed, nextNamed, rootWay, further, onward, allFrom, coreWays, ways, page, lower, lowestWay}
 
--- What is looked for beside a memory of n pages and marks c of pages: from page low on, with kind 0 a page beyond memory, with kind 1 a page that is
--- marked, by a way that grants write, with kind 3 page low itself, else a page that is marked, by a way that grants write
--- or comes to a table.
+-- What is looked for beside a memory of n pages and marks c of pages: from page low on, with kind 0 a page beyond
+-- memory, with kind 1 a page that is marked, by a way that grants write, with kind 3 page low itself, else a page that
+-- is marked, by a way that grants write or comes to a table.
 unfoldable pub wanted : Want → ℕ → List ℕ → Named → Bool
 wanted a n c x =
     if ltb (x .page) (a .low) then false

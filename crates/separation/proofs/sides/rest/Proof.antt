@@ -8,7 +8,8 @@ use denote.Ref.{now}
 use Rattle.tables.specs.Views.{coresOf, runs}
 use Rattle.reach.specs.Reach.{members}
 use Rattle.separation.specs.Apart.{restBelow}
-use Rattle.separation.proofs.Deciding.{rest-put, rest-members, byte-small}
+use Rattle.separation.proofs.Members.{byte-small}
+use Rattle.separation.proofs.Deciding.{rest-put, rest-members}
 use Rattle.separation.proofs.sides.rest.Statement.{statement}
 use Rattle.separation.proofs.sides.rest.Tie as tie
 

@@ -1,4 +1,5 @@
--- `ways::search::scan` meets its contract. The invariant: what is found is the lowest of the ways by the entries below i.
+-- `ways::search::scan` meets its contract. The invariant: what is found is the lowest of the ways by the entries below
+-- i.
 -- Assumes nothing.
 use mathlib.Core.Path.{_≡_, _∙_}
 use mathlib.Core.Logic.{⊎-elim}
