@@ -11,27 +11,14 @@
  *    why N WORDS   each reason by mips86_why, in their order, with its 18 words in decimal
  * Status 1, with one line on standard error, where the input is no machine or an answer is none of these.
  */
-#include "mips86.h"
+#include "machine.h"
 
 #include <inttypes.h>
-#include <stdio.h>
 #include <stdlib.h>
-
-#define MOST_WORDS MIPS86_TABLE_WORDS(MIPS86_MOST_CORES)
-
-static uint8_t bytes[4 * MOST_WORDS + MIPS86_MOST_PAGES * MIPS86_PAGE_BYTES + 1]; /* one more shows what is too long */
-static uint32_t tables[MOST_WORDS];
-static size_t ntables, nmemory;
-static const uint8_t *memory;
 
 static int fail(const char *why) {
     fprintf(stderr, "judged: %s\n", why);
     return 1;
-}
-
-static uint32_t word(size_t i) {
-    const uint8_t *at = bytes + 4 * i;
-    return (uint32_t)at[0] | (uint32_t)at[1] << 8 | (uint32_t)at[2] << 16 | (uint32_t)at[3] << 24;
 }
 
 static int print_map(const char *name, uint32_t group, size_t pages) {
@@ -60,17 +47,9 @@ static int print_reasons(uint32_t group) {
 int main(int argc, char **argv) {
     if (argc != 3) return fail("name the group and the rest as numbers");
     uint32_t group = (uint32_t)strtoul(argv[1], NULL, 10), rest = (uint32_t)strtoul(argv[2], NULL, 10);
-    size_t n = fread(bytes, 1, sizeof bytes, stdin);
-    if (ferror(stdin)) return fail("standard input cannot be read");
-    if (n < 8) return fail("standard input is shorter than words 0 and 1");
-    uint32_t cores = word(0), pages = word(1);
-    if (cores < 1 || cores > MIPS86_MOST_CORES) return fail("word 0 is not 1 to 4 cores");
-    if (pages < 1 || pages > MIPS86_MOST_PAGES) return fail("word 1 is not 1 to 4096 pages");
-    ntables = MIPS86_TABLE_WORDS(cores);
-    nmemory = (size_t)pages * MIPS86_PAGE_BYTES;
-    memory = bytes + 4 * ntables;
-    if (n != 4 * ntables + nmemory) return fail("standard input is not as long as words 0 and 1 say");
-    for (size_t i = 0; i < ntables; i++) tables[i] = word(i);
+    uint32_t cores, pages;
+    const char *why = read_machine(&cores, &pages);
+    if (why != NULL) return fail(why);
 
     uint32_t answer = mips86_apart(tables, ntables, memory, nmemory, group);
     printf("apart %" PRIu32 "\n", answer);

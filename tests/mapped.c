@@ -11,27 +11,17 @@
  *    word N                table word that is not as mips86_make gives it for so many cores
  * Status 1, with one line on standard error, where the input is no machine or the output cannot be written.
  */
-#include "mips86.h"
+#include "machine.h"
 
 #include <inttypes.h>
-#include <stdio.h>
 
 #define VIRTUAL_PAGES 1048576u
-#define MOST_WORDS MIPS86_TABLE_WORDS(MIPS86_MOST_CORES)
 
-static uint8_t bytes[4 * MOST_WORDS + MIPS86_MOST_PAGES * MIPS86_PAGE_BYTES + 1]; /* one more shows what is too long */
-static uint32_t tables[MOST_WORDS], made[MOST_WORDS];
-static size_t ntables, nmemory;
-static const uint8_t *memory;
+static uint32_t made[MOST_WORDS];
 
 static int fail(const char *why) {
     fprintf(stderr, "mapped: %s\n", why);
     return 1;
-}
-
-static uint32_t word(size_t i) {
-    const uint8_t *at = bytes + 4 * i;
-    return (uint32_t)at[0] | (uint32_t)at[1] << 8 | (uint32_t)at[2] << 16 | (uint32_t)at[3] << 24;
 }
 
 static void print_answer(uint32_t core, uint32_t va, const uint32_t *answer) {
@@ -65,18 +55,9 @@ static uint32_t print_tables(uint32_t core, size_t pages) {
 }
 
 int main(void) {
-    size_t n = fread(bytes, 1, sizeof bytes, stdin);
-    if (ferror(stdin)) return fail("standard input cannot be read");
-    if (n < 8) return fail("standard input is shorter than words 0 and 1");
-    uint32_t cores = word(0), pages = word(1);
-    if (cores < 1 || cores > MIPS86_MOST_CORES) return fail("word 0 is not 1 to 4 cores");
-    if (pages < 1 || pages > MIPS86_MOST_PAGES) return fail("word 1 is not 1 to 4096 pages");
-    ntables = MIPS86_TABLE_WORDS(cores);
-    nmemory = (size_t)pages * MIPS86_PAGE_BYTES;
-    memory = bytes + 4 * ntables;
-    if (n != 4 * ntables + nmemory) return fail("standard input is not as long as words 0 and 1 say");
-
-    for (size_t i = 0; i < ntables; i++) tables[i] = word(i);
+    uint32_t cores, pages;
+    const char *why = read_machine(&cores, &pages);
+    if (why != NULL) return fail(why);
     for (uint32_t core = 0; core < cores; core++)
         if (print_virtual_pages(core) != MIPS86_DONE || print_tables(core, pages) != MIPS86_DONE)
             return fail("the library refuses the machine");

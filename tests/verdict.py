@@ -22,7 +22,7 @@ r w t: the group reads it, writes it, uses it as a table; R W T: the rest does
 =: both read it; +: the group writes it or uses it as a table, the rest reads it
 !: it spoils the verdict; .: neither the group nor the rest reaches it
 """
-DATA, TABLE, WRITABLE = 1, 2, 4
+TABLE, WRITABLE = 2, 4
 RUNNING = 67
 
 
