@@ -1,21 +1,13 @@
 #!/usr/bin/env python3
 """Throws good and bad inputs at the program verdict. Whatever comes, it writes to standard output alone and ends by
-itself: one line that says what is wrong, or the whole report that the answers of the library for that group come to
-(tests/judged.c), word for word. All groups of each bundled map are asked. Python, standard library only.
+itself, and what it writes is compared byte for byte: one line that says what is wrong, or the whole report that the
+answers of the library for that group come to (tests/judged.c). All groups of each bundled map are asked, and maps of
+all sizes on stacks of all sizes. Python, standard library only.
 
     python3 tests/verdict.py target/bin/verdict JUDGED examples/maps [HOW_MANY]
 """
-import random, re, resource, struct, subprocess, sys
+import os, random, resource, struct, subprocess, sys
 
-WRONG = re.compile(
-    r"no group: name its cores, as in 'verdict 0 2'"
-    r"|'.{0,18}' is no core number: 0 to 3"
-    r"|the input is cut at byte [0-9]+: words 0 and 1 are 8 bytes"
-    r"|the input is (cut at byte [0-9]+|too long): a machine \(cores: [1-4], pages: [0-9]+\) has [0-9]+ bytes"
-    r"|word 0 says [0-9]+ cores, not 1 to 4"
-    r"|word 1 says [0-9]+ pages, not 1 to 4096"
-    r"|a map of [0-9]+ pages needs a larger stack: type 'ulimit -s 32768' first"
-)
 MARKS = 64
 LEGEND = """\
 r w t: the group reads it, writes it, uses it as a table; R W T: the rest does
@@ -100,23 +92,32 @@ def report(judged, data, group):
     return said + ["not apart\n", "apart\n"][answer]
 
 
-def has_its_length(data):
+def shown(argument):
+    return "'%s%s'" % ("".join(chr(x) if 32 <= x <= 126 else "?" for x in argument[:16]), ".." if len(argument) > 16 else "")
+
+
+def expected(judged, arguments, data):
+    """All that has to be said: the line for the first thing that is wrong, or the report."""
+    named = [os.fsencode(argument) for argument in arguments]
+    if sum(len(argument) + 1 for argument in named) > 4096:
+        return "the arguments are too long: more than 4096 bytes\n"
+    for argument in named:
+        if argument not in (b"0", b"1", b"2", b"3"):
+            return "%s is no core number: 0 to 3\n" % shown(argument)
+    if not named:
+        return "no group: name its cores, as in 'verdict 0 2'\n"
     if len(data) < 8:
-        return False
+        return "the input is cut at byte %d: words 0 and 1 are 8 bytes\n" % len(data)
     cores, pages = struct.unpack_from("<2I", data)
-    return 1 <= cores <= 4 and 1 <= pages <= 4096 and len(data) == 128 + 1024 * cores + 4096 * pages
-
-
-def what_is_wrong(out, judged, data, group):
-    """None where the output is what it has to be; group is None where the arguments name none."""
-    try:
-        text = out.decode("ascii")
-    except UnicodeDecodeError:
-        return "bytes that are not ASCII"
-    if group is not None and has_its_length(data):
-        return None if text == report(judged, data, group) else "not what the library answers"
-    line = text[:-1]
-    return None if text.endswith("\n") and len(line) <= 120 and WRONG.fullmatch(line) else "a line that is not known"
+    if not 1 <= cores <= 4:
+        return "word 0 says %d cores, not 1 to 4\n" % cores
+    if not 1 <= pages <= 4096:
+        return "word 1 says %d pages, not 1 to 4096\n" % pages
+    has = 128 + 1024 * cores + 4096 * pages
+    if len(data) != has:
+        wrong = "cut at byte %d" % len(data) if len(data) < has else "too long"
+        return "the input is %s: a machine (cores: %d, pages: %d) has %d bytes\n" % (wrong, cores, pages, has)
+    return report(judged, data, {int(argument) for argument in named})
 
 
 def cut(r, b):
@@ -202,29 +203,42 @@ def enlarged(b, pages):
     return b[:4] + struct.pack("<I", pages) + b[8:start] + b[start:].ljust(4096 * pages, b"\0")
 
 
-def stack(kilobytes):
-    resource.setrlimit(resource.RLIMIT_STACK, (kilobytes * 1024, resource.getrlimit(resource.RLIMIT_STACK)[1]))
+def asked(program, arguments, data, kilobytes, environment=None):
+    """What the program writes on a stack of so many KB, or why it did not end as it has to."""
+
+    def limited():
+        resource.setrlimit(resource.RLIMIT_STACK, (kilobytes * 1024, resource.getrlimit(resource.RLIMIT_STACK)[1]))
+
+    got = subprocess.run([program] + arguments, input=data, capture_output=True, env=environment, preexec_fn=limited, timeout=60)
+    if got.returncode != 0:
+        return "status %d" % got.returncode
+    return "bytes on standard error" if got.stderr else got.stdout.decode("ascii", "replace")
 
 
-def sizes(program, map_):
-    """Maps of 1,024 pages and of more, on the usual stack and on a larger one: what is said last, and in how many lines."""
+def sizes(program, judged, map_):
+    """Maps of all sizes on stacks of all sizes, also with as much around the program as the system allows: the report,
+    or a line that says what to type. An input that is too long is known on any stack that has room for its machine."""
+    small, large = "the stack is too small: type 'ulimit -s 8192' first\n", "a map of more than 1024 pages needs a larger stack: type 'ulimit -s 32768' first\n"
+    full = {"X%d" % i: "x" * 131000 for i in range(64)}
     failed = 0
-    for kilobytes, pages, last, lines in (
-        (8192, 1024, "apart", 2 + 16 + 3 + 1),
-        (8192, 1025, "a map of 1025 pages needs a larger stack: type 'ulimit -s 32768' first", 1),
-        (32768, 1025, "apart", 2 + 17 + 3 + 1),
-        (32768, 4096, "apart", 2 + 64 + 3 + 1),
-    ):
-        stack(kilobytes)
-        got = subprocess.run([program, "0"], input=enlarged(map_, pages), stdout=subprocess.PIPE, timeout=20).stdout.decode().split("\n")[:-1]
-        if not got or got[-1] != last or len(got) != lines:
-            failed += 1
-            print("verdict: %d pages and a stack of %d KB: %r, %d lines" % (pages, kilobytes, got[-1:], len(got)))
+    for pages in (64, 1024, 1025, 4096):
+        data = enlarged(map_, pages)
+        for kilobytes in (64, 512, 4096, 6143, 6144, 8192, 16384, 24575, 24576, 32768, 65536):
+            needs = small if kilobytes < 6144 else large if kilobytes < 24576 and pages > 1024 else None
+            room = min(kilobytes // 4, 6144) * 1024 - 20000
+            around = dict(list(full.items())[: max(0, room // 131100)])
+            for environment, more in ((None, b""), (around, b""), (None, b"\0"), (None, bytes(5000000))):
+                said = needs or expected(judged, ["0"], data + more)
+                got = asked(program, ["0"], data + more, kilobytes, environment)
+                if got != said:
+                    failed += 1
+                    print("verdict: %d pages and %d bytes, a stack of %d KB: %r" % (pages, len(more), kilobytes, got[-200:]))
     return failed
 
 
-GROUPS = [[str(k) for k in range(4) if n >> k & 1] for n in range(1, 16)] + [["3", "3"], ["2", "0", "2"], ["3", "1"]]
-BAD_GROUPS = [[], [""], ["4"], ["-1"], ["00"], ["x7"], ["0", "x"], ["\x01\x7f"], ["é"], ["1" * 16], ["1" * 17], ["a" * 5000], ["0"] * 300 + ["9"], ["'"], ["%s%n"]]
+GROUPS = [[str(k) for k in range(4) if n >> k & 1] for n in range(1, 16)] + [["3", "3"], ["2", "0", "2"], ["3", "1"], ["2"] * 2048]
+BAD_GROUPS = [[], [""], ["4"], ["-1"], ["00"], ["x7"], ["0", "x"], ["\x01\x7f"], ["é"], ["1" * 16], ["1" * 17], ["0"] * 300 + ["9"], ["'"], ["%s%n"], ["/"], [":"]]
+BAD_GROUPS += [["3", ""], ["a" * 4095], ["a" * 4096], ["a" * 5000], ["0"] * 2049, ["0"] * 2047 + [""], ["0"] * 2048 + [""], ["0"] * 3000, ["0", "a" * 4095]]
 
 
 def questions(r, good, count):
@@ -244,23 +258,18 @@ def main():
     count = int(sys.argv[4]) if len(sys.argv) > 4 else 3000
     good = [open("%s/%s.bin" % (maps, name), "rb").read() for name in ("feeder", "competitor", "own_table")]
     r = random.Random(20261116)
-    failed, asked, reports, apart, stopped = sizes(program, good[0]), 0, 0, 0, 0
-    stack(8192)
+    failed, number, reports, apart, stopped = sizes(program, judged, good[0]), 0, 0, 0, 0
     for damage, data, group in questions(r, good, count):
-        got = subprocess.run([program] + group, input=data, stdout=subprocess.PIPE, stderr=subprocess.PIPE, timeout=20)
-        wrong = what_is_wrong(got.stdout, judged, data, None if group in BAD_GROUPS else {int(k) for k in group})
-        if got.returncode != 0:
-            wrong = "status %d" % got.returncode
-        if got.stderr:
-            wrong = "bytes on standard error"
-        if wrong:
+        said = expected(judged, group, data)
+        got = asked(program, group, data, 8192)
+        if got != said:
             failed += 1
-            print("verdict: input %d (%s, %r): %s: %r" % (asked, damage.__name__, [g[:20] for g in group[:3]], wrong, got.stdout[:300]))
-        asked += 1
-        reports += got.stdout.count(b"\n") > 1
-        apart += got.stdout.endswith(b"\napart\n")
-        stopped += b"\nnot running, so not judged: " in got.stdout
-    print("verdict: %d inputs, %d reports (%d apart, %d with cores not judged), %d failed" % (asked, reports, apart, stopped, failed))
+            print("verdict: input %d (%s, %r): %r in place of %r" % (number, damage.__name__, [g[:20] for g in group[:3]], got[:300], said[:300]))
+        number += 1
+        reports += got.count("\n") > 1
+        apart += got.endswith("\napart\n")
+        stopped += "\nnot running, so not judged: " in got
+    print("verdict: %d inputs, %d reports (%d apart, %d with cores not judged), %d failed" % (number, reports, apart, stopped, failed))
     if failed or reports < count // 20 or apart == 0 or stopped == 0:
         sys.exit(1)
 

@@ -24,7 +24,7 @@ use Rattle.reasons.proofs.None.{no-reason}
 use Rattle.reasons.proofs.Telling.{judged}
 use Rattle.reason_lines.specs.Reasons.{wayOf, reasonText, reasonLines}
 use Rattle.judgement.specs.Report.{refusedText}
-use Rattle.judgement.specs.Report.{shownSides, sidesText, endText, Reported}
+use Rattle.judgement.specs.Report.{shownSides, sidesText, endText, saidOf, reportText}
 use Rattle.judgement.specs.inner.Lines.{LinesLeft}
 
 -- ---- reasons, line by line
@@ -100,19 +100,23 @@ module _ (g r : ℕ) (t m own other : List ℕ) (e : own ≡ mapFor (members g (
 -- ---- what is said of each verdict
 
 module _ (g : ℕ) (t m : List ℕ) where
+  said : (v : Verdict) → apartOn g t m ≡ v → {b : List ℕ} {r : ℕ} {c : List ℕ} → Put b 0 (saidOf v g t m) r c → Put b 0 (reportText g t m) r c
+  unfolding reportText
+  said v e p = reworded (ap (λ (w : Verdict). saidOf w g t m) (sym e)) p
+
   pub answered-yes :
-      {b : List ℕ} {r : ℕ} {c : List ℕ} → apartOn g t m ≡ Yes → Put b 0 (sidesText g t m ++ endText g t (ascii "apart\n")) r c → Reported (apartOn g t m) b g t m r c
-  unfolding Reported
-  answered-yes {b} {r} {c} e p = subst (λ (v : Verdict). Reported v b g t m r c) (sym e) p
+      {b : List ℕ} {r : ℕ} {c : List ℕ} → apartOn g t m ≡ Yes → Put b 0 (sidesText g t m ++ endText g t (ascii "apart\n")) r c → Put b 0 (reportText g t m) r c
+  unfolding saidOf
+  answered-yes e p = said Yes e p
 
   pub answered-no :
       {b : List ℕ} {p : ℕ} {c : List ℕ} {q : ℕ} {d : List ℕ} {r : ℕ} {f : List ℕ} → apartOn g t m ≡ No → Put b 0 (sidesText g t m) p c
-      → Put c p (reasonLines 6 0 g t m) q d → Put d q (endText g t (ascii "not apart\n")) r f → Reported (apartOn g t m) b g t m r f
-  unfolding Reported
-  answered-no {b} {p} {c} {q} {d} {r} {f} e x y z = subst (λ (v : Verdict). Reported v b g t m r f) (sym e) (follow (follow x y) z)
+      → Put c p (reasonLines 6 0 g t m) q d → Put d q (endText g t (ascii "not apart\n")) r f → Put b 0 (reportText g t m) r f
+  unfolding saidOf
+  answered-no e x y z = said No e (follow (follow x y) z)
 
   module _ (n : ℕ) where
     pub answered-refused :
-        {b : List ℕ} {r : ℕ} {c : List ℕ} → apartOn g t m ≡ Refused n → Put b 0 (refusedText n) r c → Reported (apartOn g t m) b g t m r c
-    unfolding Reported
-    answered-refused {b} {r} {c} e p = subst (λ (v : Verdict). Reported v b g t m r c) (sym e) p
+        {b : List ℕ} {r : ℕ} {c : List ℕ} → apartOn g t m ≡ Refused n → Put b 0 (refusedText n) r c → Put b 0 (reportText g t m) r c
+    unfolding saidOf
+    answered-refused e p = said (Refused n) e p

@@ -6,11 +6,11 @@ use Prim.Native.Nat.{ℕ}
 use lib.Dec.{eqb}
 use Rattle.word.specs.Word.{if_then_else_, isSet}
 use Rattle.layout.specs.Blocks.{block}
-use Rattle.text.specs.Text.{Put, ascii, decimal}
+use Rattle.text.specs.Text.{ascii, decimal}
 use Rattle.tables.specs.Views.{coresOf, runs}
 use Rattle.reach.specs.Lists.{range, select}
 use Rattle.reach.specs.Reach.{members, mapFor}
-use Rattle.separation.specs.Apart.{rest}
+use Rattle.separation.specs.Apart.{rest, apartOn}
 use Rattle.separation.specs.declared.Verdict.{Verdict}
 use Rattle.separation.specs.declared.Verdict.the-variants.{No, Yes, Refused}
 use Rattle.picture.specs.Pages.{picture}
@@ -55,8 +55,12 @@ stoppedText (k ∷ l) = ascii "not running, so not judged: " ++ coresText (k ∷
 abbrev pub endText : ℕ → List ℕ → List ℕ → List ℕ
 endText g t words = stoppedText (stopped g t) ++ words
 
--- bytes b are c after what is said of a verdict, up to place r; there are at most six reasons
-unfoldable pub Reported : Verdict → List ℕ → ℕ → List ℕ → List ℕ → ℕ → List ℕ → Type 0
-Reported (Refused n) b g t m r c = Put b 0 (refusedText n) r c
-Reported Yes b g t m r c = Put b 0 (sidesText g t m ++ endText g t (ascii "apart\n")) r c
-Reported No b g t m r c = Put b 0 (sidesText g t m ++ reasonLines 6 0 g t m ++ endText g t (ascii "not apart\n")) r c
+-- what is said of a verdict; there are at most six reasons
+unfoldable pub saidOf : Verdict → ℕ → List ℕ → List ℕ → List ℕ
+saidOf (Refused n) g t m = refusedText n
+saidOf Yes g t m = sidesText g t m ++ endText g t (ascii "apart\n")
+saidOf No g t m = sidesText g t m ++ reasonLines 6 0 g t m ++ endText g t (ascii "not apart\n")
+
+-- the report on the group g of the machine with tables t and memory m
+unfoldable pub reportText : ℕ → List ℕ → List ℕ → List ℕ
+reportText g t m = saidOf (apartOn g t m) g t m

@@ -13,7 +13,6 @@ ghost use Rattle.text.specs.Text.{Put};
 ghost use Rattle.tables.specs.Views.{coresOf, pagesOf};
 ghost use Rattle.tables.specs.Sound.{sound};
 ghost use Rattle.reach.specs.Reach.{isGroup, members};
-ghost use Rattle.separation.specs.Apart.{apartOn};
 ghost use Rattle.reasons.specs.inner.Judging.{Sides};
 ghost use Rattle.reason_lines.specs.Reasons.{reasonLines};
 ghost use Rattle.judgement.specs.Report as report;
@@ -150,7 +149,7 @@ fn put_all(
 ) -> usize
     requires { ⌜ (sound (now t) (length (now m)) ≡ true) × (isGroup group (coresOf (now t)) ≡ true) × (12288 ≤ length (now out)) ⌝ }
     requires { ⌜ Sides group others (now t) (now m) (now own) (now other) strays astray ⌝ }
-    ensures { λ r. ⌜ report.Reported (apartOn group (now (t .entry)) (now (m .entry))) (now (out .entry)) group (now (t .entry)) (now (m .entry)) r (now (out .exit)) × (r ≤ 12288) ⌝ }
+    ensures { λ r. ⌜ Put (now (out .entry)) 0 (report.reportText group (now (t .entry)) (now (m .entry))) r (now (out .exit)) × (r ≤ 12288) ⌝ }
 {
     let p = put_sides(out, t, m, group, others, own, other);
     let r = reasons::judge::first_after(t, m, group, others, own, other, strays, astray, 0);
@@ -172,7 +171,7 @@ fn put_with_maps(
 ) -> usize
     requires { ⌜ (sound (now t) (length (now m)) ≡ true) × (isGroup group (coresOf (now t)) ≡ true) × (12288 ≤ length (now out)) ⌝ }
     requires { ⌜ (length (now own) ≡ pagesOf (now t)) × (length (now other) ≡ pagesOf (now t)) ⌝ }
-    ensures { λ r. ⌜ report.Reported (apartOn group (now (t .entry)) (now (m .entry))) (now (out .entry)) group (now (t .entry)) (now (m .entry)) r (now (out .exit)) × (r ≤ 12288) ⌝ }
+    ensures { λ r. ⌜ Put (now (out .entry)) 0 (report.reportText group (now (t .entry)) (now (m .entry))) r (now (out .exit)) × (r ≤ 12288) ⌝ }
 {
     let others = separation::sides::rest(t, group);
     let strays = reach::fill(t, m, group, own);
@@ -183,7 +182,7 @@ fn put_with_maps(
 // The same with maps of its own.
 fn put_judged(out: &mut [u8], t: &[u32], m: &[u8], group: u32) -> usize
     requires { ⌜ (sound (now t) (length (now m)) ≡ true) × (isGroup group (coresOf (now t)) ≡ true) × (12288 ≤ length (now out)) ⌝ }
-    ensures { λ r. ⌜ report.Reported (apartOn group (now (t .entry)) (now (m .entry))) (now (out .entry)) group (now (t .entry)) (now (m .entry)) r (now (out .exit)) × (r ≤ 12288) ⌝ }
+    ensures { λ r. ⌜ Put (now (out .entry)) 0 (report.reportText group (now (t .entry)) (now (m .entry))) r (now (out .exit)) × (r ≤ 12288) ⌝ }
 {
     let n = t[PAGES] as usize;
     let mut own = [0u8; MOST_PAGES];
@@ -194,7 +193,7 @@ fn put_judged(out: &mut [u8], t: &[u32], m: &[u8], group: u32) -> usize
 // The verdict, and what leads to it; or a refusal.
 pub fn put_report(out: &mut [u8], t: &[u32], m: &[u8], group: u32) -> usize
     requires { ⌜ 12288 ≤ length (now out) ⌝ }
-    ensures { λ r. ⌜ report.Reported (apartOn group (now (t .entry)) (now (m .entry))) (now (out .entry)) group (now (t .entry)) (now (m .entry)) r (now (out .exit)) × (r ≤ 12288) ⌝ }
+    ensures { λ r. ⌜ Put (now (out .entry)) 0 (report.reportText group (now (t .entry)) (now (m .entry))) r (now (out .exit)) × (r ≤ 12288) ⌝ }
 {
     if !tables::sound(t, m.len()) {
         return put_refused(out, 4);

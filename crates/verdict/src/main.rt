@@ -1,92 +1,57 @@
-// The verdict on a group of cores: a machine from standard input, the group's cores as arguments, and a report on standard output.
+// The program of the verdict: the cores of a group as arguments, a machine from standard input, and what verdict_text says of both on standard output.
 mod stack;
-mod wrong;
 
-use layout::BLOCK_WORDS;
-use layout::HEADER_WORDS;
-use layout::PAGE_BYTES;
 use libc::STDIN_FILENO;
 use libc::STDOUT_FILENO;
-ghost use mathlib.Core.Path.{_≡_};
-ghost use Prim.Native.Nat.{ℕ, _+_, _*_, _≤_, _<_};
-ghost use lib.ListN.{length, getD};
+use verdict_text::TEXT;
+ghost use Prim.Native.Nat.{_+_, _≤_, _<_};
+ghost use lib.ListN.{length};
 ghost use Rattle.io.specs.Counts.{Counts};
-ghost use Rattle.word.specs.Bytes.{bytesAt};
 
-// What a report may take.
-const TEXT: usize = 12288;
+// Room for the arguments, and a byte by which longer ones are known.
+const ARGUMENT_ROOM: usize = 4097;
 
-// The tables of four cores, as bytes and as words.
-const TABLE_BYTES: usize = 4224;
-
-const TABLE_WORDS: usize = 1056;
-
-// Up to 1,024 pages the memory has its place in a small frame, and beyond in a large one, that no smaller map enters: 4 and 16 MB.
+// Room for the input of a machine of four cores, and a byte by which a longer one is known (verdict_text, the law `enough`): up to 1,024 pages a small room, beyond a large one.
 const SMALL_PAGES: u32 = 1024;
 
-const SMALL_BYTES: usize = 4194304;
+const SMALL_ROOM: usize = 4198529;
 
-const LARGE_BYTES: usize = 16777216;
+const LARGE_ROOM: usize = 16781441;
 
-// What the stack has to hold for the large frame, with all others and what the program is started with, up to a quarter of it: 24 MB.
+// What the stack has to hold for each room, with all that is beside it and what the program is started with, which is up to a quarter: 6 and 24 MB.
+const SMALL_STACK: u64 = 6291456;
+
 const LARGE_STACK: u64 = 25165824;
 
-// The group that the arguments name; or the number of the first that names no core.
-struct Request {
-    group: u32,
-    wrong: usize,
-}
-
-// The core that an argument names, or 4.
-fn asked_core(i: usize) -> u32
-    ensures { λ r. ⌜ r ≤ 4 ⌝ }
+// Reads an argument to a place, with a zero byte after it, and answers the place after that; or the end, where it does not fit.
+fn read_argument(a: &mut [u8], at: usize, i: usize) -> usize
+    requires { ⌜ at ≤ length (now a) ⌝ }
+    ensures { λ r. ⌜ r ≤ length (now (a .entry)) ⌝ }
 {
-    let mut s = [0u8; 16];
-    let n = os::arg(i, &mut s);
+    let n = os::arg(i, &mut a[at..]);
     if os::errno() != 0 {
-        return 4;
+        return a.len();
     }
-    wrong::core_of(&s[..n])
+    let end = at + n;
+    if end < a.len() {
+        a[end] = 0;
+        return end + 1;
+    }
+    end
 }
 
-fn take_request() -> Request {
+// Reads the arguments, and answers how many bytes they take.
+fn read_arguments(a: &mut [u8]) -> usize
+    ensures { λ r. ⌜ Counts r (now (a .exit)) ⌝ }
+{
     let n = os::arg_count();
-    let mut group: u32 = 0;
+    let mut at: usize = 0;
     let mut i: usize = 1;
     while i < n {
-        let k = asked_core(i);
-        if 3 < k {
-            return Request { group: 0, wrong: i };
-        }
-        group = word::put_bit(group, k, 1);
+        at = read_argument(a, at, i);
         i += 1;
     }
-    Request { group, wrong: 0 }
-}
-
-// Says that an argument names no core; a long one is shown by its first bytes.
-fn say_no_core(out: &mut [u8], i: usize) -> usize
-    requires { ⌜ 12288 ≤ length (now out) ⌝ }
-    ensures { λ r. ⌜ r ≤ 12288 ⌝ }
-{
-    let mut s = [0u8; 16];
-    let n = os::arg(i, &mut s);
-    if os::errno() == libc::ENAMETOOLONG {
-        return wrong::put_no_core(out, &s, true);
-    }
-    wrong::put_no_core(out, &s[..n], false)
-}
-
-// The words of the tables, low byte first.
-fn fill_words(t: &mut [u32], raw: &[u8])
-    requires { ⌜ 4 * length (now t) ≤ length (now raw) ⌝ }
-    ensures { λ _. ⌜ ((i : ℕ) → i < length (now (t .entry)) → getD (now (t .exit)) i 0 ≡ bytesAt 4 (now (raw .entry)) (4 * i)) ⌝ }
-{
-    let mut i: usize = 0;
-    while i < t.len() {
-        t[i] = word::read_word(raw, 4 * i);
-        i += 1;
-    }
+    at
 }
 
 // Where the next piece to be read ends: after 64 KB, or at the end.
@@ -97,14 +62,14 @@ fn piece_end(done: usize, n: usize) -> usize
     if n - done < 65536 { n } else { done + 65536 }
 }
 
-// Reads the memory, and answers how many bytes came.
-fn read_memory(m: &mut [u8]) -> usize
-    ensures { λ r. ⌜ r ≤ length (now (m .entry)) ⌝ }
+// Reads the input, as much as there is room for, and answers how many bytes came.
+fn read_input(input: &mut [u8]) -> usize
+    ensures { λ r. ⌜ Counts r (now (input .exit)) ⌝ }
 {
     let mut done: usize = 0;
-    while done < m.len() {
-        let end = piece_end(done, m.len());
-        let got = io::read_full(STDIN_FILENO, &mut m[done..end]);
+    while done < input.len() {
+        let end = piece_end(done, input.len());
+        let got = io::read_full(STDIN_FILENO, &mut input[done..end]);
         if got < end - done {
             return done + got;
         }
@@ -113,149 +78,71 @@ fn read_memory(m: &mut [u8]) -> usize
     done
 }
 
-// Whether there is input left.
-fn is_more() -> bool {
-    let mut next = [0u8; 1];
-    0 < io::read_full(STDIN_FILENO, &mut next)
-}
-
-// Reads the memory into the space lent, and reports.
-fn judge(out: &mut [u8], t: &[u32], m: &mut [u8], group: u32, cores: u32, pages: u32) -> usize
-    requires { ⌜ (12288 ≤ length (now out)) × (cores ≤ 4) × (pages ≤ 4096) × (length (now m) ≤ 16777216) ⌝ }
+// Reads the input into the room lent, and judges it. A full room may lack some of it, where the machine has more pages than the room was made for.
+fn judge_in(out: &mut [u8], a: &[u8], input: &mut [u8], pages: u32) -> usize
+    requires { ⌜ (12288 ≤ length (now out)) × (8 ≤ length (now input)) ⌝ }
     ensures { λ r. ⌜ r ≤ 12288 ⌝ }
 {
-    let tables = 128 + 1024 * (cores as u64);
-    let bytes = tables + 4096 * (pages as u64);
-    let n = read_memory(m);
-    if n < m.len() {
-        return wrong::put_cut(out, tables + n as u64, cores, pages, bytes);
+    let n = read_input(input);
+    let full = n == input.len();
+    if full & (pages < word::read_word(input, 4)) {
+        return text::put(
+            out,
+            0,
+            b"a map of more than 1024 pages needs a larger stack: type 'ulimit -s 32768' first\n",
+        );
     }
-    if is_more() {
-        return wrong::put_long(out, cores, pages, bytes);
-    }
-    judgement::put_report(out, t, m, group)
+    verdict_text::judge(a, &input[..n], out)
 }
 
-// The same in as much of the space lent as the pages take.
-fn judge_in(out: &mut [u8], t: &[u32], m: &mut [u8], group: u32, cores: u32, pages: u32) -> usize
-    requires { ⌜ (12288 ≤ length (now out)) × (cores ≤ 4) × (pages ≤ 4096) × (4096 * pages ≤ length (now m)) ⌝ }
+// These two call themselves on a text that is longer than any can be, so never. But the compiler takes a function that may call itself into no other: so the room is part of no other frame, and it is taken after the stack's limit was asked.
+fn judge_small(out: &mut [u8], a: &[u8]) -> usize
+    requires { ⌜ 12288 ≤ length (now out) ⌝ }
     ensures { λ r. ⌜ r ≤ 12288 ⌝ }
 {
-    let n = PAGE_BYTES * (pages as usize);
-    judge(out, t, &mut m[..n], group, cores, pages)
-}
-
-fn judge_small(out: &mut [u8], t: &[u32], group: u32, cores: u32, pages: u32) -> usize
-    requires { ⌜ (12288 ≤ length (now out)) × (cores ≤ 4) × (pages ≤ 1024) ⌝ }
-    ensures { λ r. ⌜ r ≤ 12288 ⌝ }
-{
-    let mut m = [0u8; SMALL_BYTES];
-    judge_in(out, t, &mut m, group, cores, pages)
-}
-
-// The answer is never more than the text holds, so it never calls itself; but a function that might is not inlined, and no other function has its frame.
-fn judge_large(out: &mut [u8], t: &[u32], group: u32, cores: u32, pages: u32) -> usize
-    requires { ⌜ (12288 ≤ length (now out)) × (cores ≤ 4) × (pages ≤ 4096) ⌝ }
-    ensures { λ r. ⌜ r ≤ 12288 ⌝ }
-{
-    let mut m = [0u8; LARGE_BYTES];
-    let r = judge_in(out, t, &mut m, group, cores, pages);
+    let mut input = [0u8; SMALL_ROOM];
+    let r = judge_in(out, a, &mut input, SMALL_PAGES);
     if TEXT < r {
-        return judge_large(out, t, group, cores, pages);
+        return judge_small(out, a);
     }
     r
 }
 
-// Reports on a machine of so many cores and pages, whose tables are read.
-fn judge_machine(out: &mut [u8], t: &[u32], group: u32, cores: u32, pages: u32) -> usize
-    requires { ⌜ (12288 ≤ length (now out)) × (cores ≤ 4) × (pages ≤ 4096) ⌝ }
-    ensures { λ r. ⌜ r ≤ 12288 ⌝ }
-{
-    if pages <= SMALL_PAGES {
-        return judge_small(out, t, group, cores, pages);
-    }
-    if stack::limit() < LARGE_STACK {
-        return wrong::put_small_stack(out, pages);
-    }
-    judge_large(out, t, group, cores, pages)
-}
-
-// Reads the rest of the tables after words 0 and 1.
-fn read_tables(
-    out: &mut [u8],
-    raw: &mut [u8],
-    t: &mut [u32],
-    group: u32,
-    cores: u32,
-    pages: u32,
-) -> usize
-    requires { ⌜ (12288 ≤ length (now out)) × (length (now raw) ≡ 4224) × (length (now t) ≡ 1056) × (cores ≤ 4) × (pages ≤ 4096) ⌝ }
-    ensures { λ r. ⌜ r ≤ 12288 ⌝ }
-{
-    let words = HEADER_WORDS + BLOCK_WORDS * (cores as usize);
-    let end = 4 * words;
-    let n = io::read_full(STDIN_FILENO, &mut raw[8..end]);
-    if n < end - 8 {
-        let bytes = end as u64 + 4096 * (pages as u64);
-        return wrong::put_cut(out, 8 + n as u64, cores, pages, bytes);
-    }
-    fill_words(&mut t[..words], raw);
-    judge_machine(out, &t[..words], group, cores, pages)
-}
-
-// Reads words 0 and 1, the numbers of cores and of pages.
-fn read_head(out: &mut [u8], raw: &mut [u8], t: &mut [u32], group: u32) -> usize
-    requires { ⌜ (12288 ≤ length (now out)) × (length (now raw) ≡ 4224) × (length (now t) ≡ 1056) ⌝ }
-    ensures { λ r. ⌜ r ≤ 12288 ⌝ }
-{
-    let n = io::read_full(STDIN_FILENO, &mut raw[..8]);
-    if n < 8 {
-        return wrong::put_cut_head(out, n as u64);
-    }
-    let cores = word::read_word(raw, 0);
-    if cores < 1 {
-        return wrong::put_bad_cores(out, cores);
-    }
-    if 4 < cores {
-        return wrong::put_bad_cores(out, cores);
-    }
-    let pages = word::read_word(raw, 4);
-    if pages < 1 {
-        return wrong::put_bad_pages(out, pages);
-    }
-    if 4096 < pages {
-        return wrong::put_bad_pages(out, pages);
-    }
-    read_tables(out, raw, t, group, cores, pages)
-}
-
-// Reads a machine and reports on a group.
-fn read_machine(out: &mut [u8], group: u32) -> usize
+fn judge_large(out: &mut [u8], a: &[u8]) -> usize
     requires { ⌜ 12288 ≤ length (now out) ⌝ }
     ensures { λ r. ⌜ r ≤ 12288 ⌝ }
 {
-    let mut raw = [0u8; TABLE_BYTES];
-    let mut t = [0u32; TABLE_WORDS];
-    read_head(out, &mut raw, &mut t, group)
+    let mut input = [0u8; LARGE_ROOM];
+    let r = judge_in(out, a, &mut input, u32::MAX);
+    if TEXT < r {
+        return judge_large(out, a);
+    }
+    r
 }
 
-// Puts all that the program has to say, and answers how much it is.
-fn answer(out: &mut [u8]) -> usize
+// Judges in the room that the stack allows.
+fn judge(out: &mut [u8], a: &[u8]) -> usize
     requires { ⌜ 12288 ≤ length (now out) ⌝ }
     ensures { λ r. ⌜ Counts r (now (out .exit)) ⌝ }
 {
-    let a = take_request();
-    if a.wrong != 0 {
-        return say_no_core(out, a.wrong);
+    let limit = stack::limit();
+    if limit < SMALL_STACK {
+        return text::put(
+            out,
+            0,
+            b"the stack is too small: type 'ulimit -s 8192' first\n",
+        );
     }
-    if a.group == 0 {
-        return wrong::put_no_group(out);
+    if limit < LARGE_STACK {
+        return judge_small(out, a);
     }
-    read_machine(out, a.group)
+    judge_large(out, a)
 }
 
 fn main() {
+    let mut a = [0u8; ARGUMENT_ROOM];
     let mut out = [0u8; TEXT];
-    let n = answer(&mut out);
-    io::write_all(STDOUT_FILENO, &out[..n]);
+    let n = read_arguments(&mut a);
+    let r = judge(&mut out, &a[..n]);
+    io::write_all(STDOUT_FILENO, &out[..r]);
 }

@@ -2,6 +2,9 @@
 ghost use Prim.Native.Nat.{_+_, _≤_, _^_, _<_};
 ghost use lib.ListN.{length};
 
+// The limit that systems give, 8 MB: it is taken where the system does not say.
+const USUAL: u64 = 8388608;
+
 // Whether a text stands at a place.
 fn is_at(s: &[u8], at: usize, text: &[u8]) -> bool
     requires { ⌜ at + length (now text) ≤ length (now s) ⌝ }
@@ -72,11 +75,11 @@ fn number_at(s: &[u8], from: usize) -> u64
     n
 }
 
-// What the row of the stack says: no limit is a large one, and no such row is none at all.
+// What the row of the stack says: no limit is a large one. Where there is no such row, what systems give.
 fn limit_in(s: &[u8]) -> u64 {
     let at = skip_blanks(s, find(s, b"Max stack size"));
     if s.len() <= at {
-        return 0;
+        return USUAL;
     }
     if s[at] == b'u' {
         return u64::MAX;
@@ -87,7 +90,7 @@ fn limit_in(s: &[u8]) -> u64 {
 pub fn limit() -> u64 {
     let fd = os::open_read(b"/proc/self/limits");
     if fd < 0 {
-        return 0;
+        return USUAL;
     }
     let mut s = io::buffer();
     let n = io::read_full(fd, &mut s);

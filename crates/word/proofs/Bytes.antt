@@ -1,12 +1,14 @@
 -- Laws of the bytes at a place of a list, for every number of them.
 -- Assumes nothing.
 use mathlib.Core.Path.{_≡_, refl, sym, ap, _∙_}
-use mathlib.Core.List.{List}
+use mathlib.Core.List.{List, [], _∷_, _++_}
 use Prim.Native.Nat.{ℕ, zero, suc, _+_, _-_, _*_, _/_, _%_, _^_, _≤_, _<_}
 use native.Mathlib.Nat.{pow-succ', pow-le-pow-right}
+use native.Mathlib.Numerals.{add-one}
 use native.Mathlib.Omega.{arith}
-use lib.ListN.{length, getD, set, length-set}
-use Rattle.word.specs.Bytes.{bytesAt, put}
+use lib.ListN.{length, getD, set, take, drop, length-set, length-append}
+use lib.Seq.{take-suc-set, take-all, getD-take, getD-drop}
+use Rattle.word.specs.Bytes.{bytesAt, put, wordsIn}
 use Rattle.word.proofs.Words.{Below, set-below}
 
 -- every element is a byte
@@ -73,3 +75,43 @@ pub write-done : (m : List ℕ) (d at i v : ℕ) → d ≤ i → m ≡ put (d - 
 write-done m d at i v h =
     let e : d - i ≡ 0 = omega arith in
     rw e
+
+-- ---- words in a list of bytes
+
+pub length-words : (n : ℕ) (b : List ℕ) → length (wordsIn n b) ≡ n
+unfolding wordsIn
+length-words zero b = refl
+length-words (suc n) b = length-append (wordsIn n b) (bytesAt 4 b (4 * n) ∷ []) ∙ omega (arith, length-words n b)
+
+pub words-start : (b : List ℕ) → [] ≡ wordsIn 0 b
+unfolding wordsIn
+words-start b = refl
+
+-- all words
+pub words-end : (t b : List ℕ) (i n : ℕ) → length t ≡ n → i ≤ n → n ≤ i → take i t ≡ wordsIn i b → t ≡ wordsIn n b
+words-end t b i n e h k f =
+    let p : i ≡ n = omega arith in
+    sym (take-all i t (omega arith)) ∙ f ∙ ap (λ (j : ℕ). wordsIn j b) p
+
+-- one word more
+pub words-more :
+    (t b : List ℕ) (i v : ℕ) → i < length t → take i t ≡ wordsIn i b → v ≡ bytesAt 4 b (4 * i) → take (i + 1) (set t i v) ≡ wordsIn (i + 1) b
+unfolding wordsIn
+words-more t b i v h f e = rw (add-one i, take-suc-set t i v h, f, e) refl
+
+-- the bytes at a place in what stands from another place on
+pub bytes-drop : (d n : ℕ) (m : List ℕ) (a : ℕ) → bytesAt d (drop n m) a ≡ bytesAt d m (n + a)
+bytes-drop zero n m a = refl
+bytes-drop (suc d) n m a =
+    let e : n + (a + 1) ≡ n + a + 1 = omega arith in
+    rw (getD-drop n m a 0, bytes-drop d n m (a + 1), e) refl
+
+-- the bytes at a place in what stands before another place
+pub bytes-take : (d n : ℕ) (m : List ℕ) (a : ℕ) → a + d ≤ n → bytesAt d (take n m) a ≡ bytesAt d m a
+bytes-take zero n m a h = refl
+bytes-take (suc d) n m a h = rw (getD-take n m a 0 (omega arith), bytes-take d n m (a + 1) (omega arith)) refl
+
+pub words-take : (n k : ℕ) (b : List ℕ) → 4 * n ≤ k → wordsIn n (take k b) ≡ wordsIn n b
+unfolding wordsIn
+words-take zero k b h = refl
+words-take (suc n) k b h = rw (words-take n k b (omega arith), bytes-take 4 k b (4 * n) (omega arith)) refl

@@ -27,7 +27,7 @@ judge-large-slice-aggregate-judge-in : (t : ℕ) → judge-large-lts.Need-slice-
   judge-large-below t,
   judge-large.Post,
 ) (judge-large-at t) judge-large.Post
-judge-large-slice-aggregate-judge-in t c = all-room 16777216 0
+judge-large-slice-aggregate-judge-in t c = all-room 16781441 0
 
 judge-large-judge-in-requires : (t : ℕ) → judge-large-lts.Need-judge-in-requires (
   judge-in-reads.Asked,
@@ -35,7 +35,7 @@ judge-large-judge-in-requires : (t : ℕ) → judge-large-lts.Need-judge-in-requ
   judge-large-below t,
   judge-large.Post,
 ) (judge-large-at t) judge-large.Post
-judge-large-judge-in-requires t c κs = (c .before .before .before .before .pre .1 .0, c .before .before .before .before .pre .1 .1, c .before .before .before .before .pre .1 .2, room 16777216 4096 _ 0 (c .before .before .before .before .pre .1 .2) (lit≤ tt))
+judge-large-judge-in-requires t c κs = (c .before .before .before .before .pre .1, room 16781441 8 0 (lit≤ tt))
 
 judge-large-judge-large-requires : (t : ℕ) → judge-large-lts.Need-judge-large-requires (
   judge-in-reads.Asked,

@@ -1,0 +1,52 @@
+use borrow.Author.Needs.{needs}
+use mathlib.Core.Path.{_≡_}
+use Prim.Native.Nat.{_-_, _≤_}
+use lib.ListN.{length}
+use Rattle.text.proofs.Texts.{counts}
+use Rattle.verdict.proofs.read_arguments.Statement.{statement}
+use Rattle.verdict.proofs.read_arguments.Tie as tie
+
+abbrev Inv-loop : tie.InvT-loop
+Inv-loop a₀ n at₀ i₀ a at i = (length a ≡ length a₀) × (at ≤ length a₀)
+
+abbrev μ-loop : tie.MeasureT-loop
+μ-loop a₀ n at₀ i₀ a at i = n - i
+
+arg-count-requires : tie.Need-arg-count-requires Inv-loop μ-loop
+arg-count-requires c κs = search needs
+
+loop-holds : tie.Need-loop-holds Inv-loop μ-loop
+loop-holds c = search needs
+
+read-argument-requires : tie.Need-read-argument-requires Inv-loop μ-loop
+read-argument-requires c κs = search needs
+
+add-i : tie.Need-add-i Inv-loop μ-loop
+add-i c = search needs
+
+loop-less : tie.Need-loop-less Inv-loop μ-loop
+loop-less c = search needs
+
+loop-again : tie.Need-loop-again Inv-loop μ-loop
+loop-again c = search needs
+
+same-length : tie.Need-same-length Inv-loop μ-loop
+same-length c = search needs
+
+returns : tie.Need-returns Inv-loop μ-loop
+returns c = counts _ _ (search needs)
+
+pub read-arguments-spec : {M : Type 1} → statement M
+read-arguments-spec =
+    tie.close
+    (tie.spec
+    Inv-loop
+    μ-loop
+    arg-count-requires
+    loop-holds
+    read-argument-requires
+    add-i
+    loop-less
+    loop-again
+    same-length
+    returns)

@@ -1,0 +1,4 @@
+pub mod Arguments
+pub mod Wrong
+pub mod Judged
+pub mod inner
