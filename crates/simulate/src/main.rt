@@ -9,7 +9,8 @@ ghost use mathlib.Core.Bool.{true};
 ghost use Prim.Native.Nat.{_+_, _*_, _≤_, _<_, _^_};
 ghost use lib.ListN.{length};
 ghost use Rattle.io.specs.Counts.{Counts};
-ghost use Rattle.simulation.specs.Simulated.{isStarted};
+ghost use Rattle.layout.specs.Layout.{tableWords};
+ghost use Rattle.simulation.specs.Simulated.{isStarted, coresIn};
 
 // Steps go in parts of 1,024: so many are read and answered at a time.
 const PART: usize = 24 * 1024;
@@ -62,34 +63,49 @@ fn take_input(t: &mut [u32], m: &mut [u8]) {
     io::write_all(STDOUT_FILENO, &out[..n]);
 }
 
-// Reads the front of the input, two bytes and the memory that they ask for, and answers how many bytes came.
-fn read_front(front: &mut [u8]) -> usize
-    requires { ⌜ length (now front) ≡ 32770 ⌝ }
-    ensures { λ r. ⌜ Counts r (now (front .exit)) ⌝ }
+// Reads the first two bytes of the input, and answers how many came.
+fn read_sizes(front: &mut [u8]) -> usize
+    requires { ⌜ 2 ≤ length (now front) ⌝ }
+    ensures { λ r. ⌜ r ≤ 2 ⌝ }
 {
-    let head = io::read_full(STDIN_FILENO, &mut front[..2]);
-    let end = head + simulation::memory_bytes(&front[..head]);
-    head + io::read_full(STDIN_FILENO, &mut front[head..end])
+    io::read_full(STDIN_FILENO, &mut front[..2])
 }
 
-// Makes the machine that the front asks for, in the space lent, and takes its steps.
-fn simulate(front: &mut [u8], tables: &mut [u32])
+// Reads the memory that they ask for to the place after them, and answers how many bytes there are then.
+fn read_memory(front: &mut [u8], sizes: usize) -> usize
+    requires { ⌜ (length (now front) ≡ 32770) × (sizes ≤ 2) ⌝ }
+    ensures { λ r. ⌜ Counts r (now (front .exit)) ⌝ }
+{
+    let end = sizes + simulation::memory_bytes(&front[..sizes]);
+    sizes + io::read_full(STDIN_FILENO, &mut front[sizes..end])
+}
+
+// Makes the machine that the front of the input asks for, and takes its steps.
+fn run(front: &mut [u8], tables: &mut [u32])
+    requires { ⌜ (isStarted (now front) ≡ true) × (length (now tables) ≡ tableWords (coresIn (now front))) ⌝ }
+{
+    simulation::start(front, tables);
+    let end = 2 + simulation::memory_bytes(front);
+    take_input(tables, &mut front[2..end]);
+}
+
+// The same in the space lent, which has room for four cores.
+fn run_in(front: &mut [u8], tables: &mut [u32])
     requires { ⌜ (isStarted (now front) ≡ true) × (length (now tables) ≡ 1056) ⌝ }
 {
     let words = HEADER_WORDS + BLOCK_WORDS * (word::wide(front[0]) as usize);
-    let end = 2 + simulation::memory_bytes(front);
-    simulation::start(front, &mut tables[..words]);
-    take_input(&mut tables[..words], &mut front[2..end]);
+    run(front, &mut tables[..words]);
 }
 
 fn main() {
     let mut front = [0u8; 32770];
     let mut out = [0u8; 64];
-    let n = read_front(&mut front);
+    let sizes = read_sizes(&mut front);
+    let n = read_memory(&mut front, sizes);
     let r = simulation::put_first(&mut out, &front[..n]);
     io::write_all(STDOUT_FILENO, &out[..r]);
     if simulation::is_started(&front[..n]) {
         let mut tables = [0u32; 1056];
-        simulate(&mut front[..n], &mut tables);
+        run_in(&mut front[..n], &mut tables);
     }
 }

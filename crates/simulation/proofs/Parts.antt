@@ -39,15 +39,18 @@ module _ (k : ℕ) (p : Progress) (b : List ℕ) where
 
   pub after-more : (n : ℕ) → after (k + n) p b ≡ after n (after k p b) (drop (24 * k) b)
   unfolding after
-  after-more zero = refl
-  after-more (suc n) = rw (same-place n, sym (after-more n)) refl
+  after-more zero = let e : k + 0 ≡ k = omega arith in ap (λ (j : ℕ). after j p b) e
+  after-more (suc n) =
+      let e : k + suc n ≡ suc (k + n) = omega arith in
+      rw e (rw (same-place n, sym (after-more n)) refl)
 
   pub lines-more : (n place : ℕ) → linesOf (k + n) place p b ≡ linesOf k place p b ++ linesOf n (place + k) (after k p b) (drop (24 * k) b)
   unfolding linesOf
-  lines-more zero place = sym (append-nil (linesOf k place p b))
+  lines-more zero place = let e : k + 0 ≡ k = omega arith in rw e (sym (append-nil (linesOf k place p b)))
   lines-more (suc n) place =
-      let e : place + (k + n) ≡ place + k + n = omega arith in
-      rw (same-place n, sym (after-more n), lines-more n place, e) (append-assoc (linesOf k place p b) (linesOf n (place + k) (after k p b) (drop (24 * k) b)) _)
+      let e : k + suc n ≡ suc (k + n) = omega arith in
+      let f : place + (k + n) ≡ place + k + n = omega arith in
+      rw e (rw (same-place n, sym (after-more n), lines-more n place, f) (append-assoc (linesOf k place p b) (linesOf n (place + k) (after k p b) (drop (24 * k) b)) (lineText (place + k + n) (stepAt (after (k + n) p b) b (24 * (k + n)) .answer))))
 
 -- ---- a part of k whole steps and the rest
 

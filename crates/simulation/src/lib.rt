@@ -5,6 +5,7 @@ ghost use mathlib.Core.Path.{_≡_};
 ghost use mathlib.Core.Bool.{true};
 ghost use Prim.Native.Nat.{_+_, _*_, _/_, _≤_, _<_, _^_};
 ghost use lib.ListN.{length, drop};
+ghost use Rattle.io.specs.Counts.{Counts};
 ghost use Rattle.word.specs.Word.{if_then_else_, flag};
 ghost use Rattle.word.specs.Bytes.{wordsIn};
 ghost use Rattle.text.specs.Text.{Put};
@@ -51,7 +52,7 @@ pub fn is_started(input: &[u8]) -> bool
 // The first line, for the front of an input.
 pub fn put_first(out: &mut [u8], input: &[u8]) -> usize
     requires { ⌜ 64 ≤ length (now out) ⌝ }
-    ensures { λ r. ⌜ Put (now (out .entry)) 0 (simulated.firstText (now (input .entry))) r (now (out .exit)) × (r ≤ 64) ⌝ }
+    ensures { λ r. ⌜ Put (now (out .entry)) 0 (simulated.firstText (now (input .entry))) r (now (out .exit)) × Counts r (now (out .exit)) ⌝ }
 {
     if is_started(input) {
         return put(out, 0, b"step answer\n");
@@ -92,25 +93,27 @@ fn take(t: &mut [u32], m: &mut [u8], input: &[u8], at: usize) -> Answer
     machine::step(t, m, &s)
 }
 
-// All whole steps of a part of the input, at most 1,024, of which the first has a place; a line for each.
+// All whole steps of a part of the input, at most 1,024; a line for each. The first has a place, and some were accepted
+// before it.
 pub fn take_steps(
     t: &mut [u32],
     m: &mut [u8],
     input: &[u8],
     place: u64,
-    accepted_before: u64,
+    earlier: u64,
     out: &mut [u8],
 ) -> Taken
-    requires { ⌜ (length (now input) ≤ 24 * 1024) × (length (now out) ≡ 64 * 1024) × (place < 2 ^ 63) × (accepted_before ≤ place) ⌝ }
-    ensures { λ r. ⌜ Put (now (out .entry)) 0 (simulated.linesOf (length (now (input .entry)) / 24) place (simulated.from (now (t .entry)) (now (m .entry)) accepted_before) (now (input .entry))) (r .written) (now (out .exit)) ⌝ }
-    ensures { λ r. ⌜ simulated.from (now (t .exit)) (now (m .exit)) (r .accepted) ≡ simulated.after (length (now (input .entry)) / 24) (simulated.from (now (t .entry)) (now (m .entry)) accepted_before) (now (input .entry)) ⌝ }
+    requires { ⌜ (length (now input) ≤ 24 * 1024) × (length (now out) ≡ 64 * 1024) × (place < 2 ^ 63) × (earlier ≤ place) ⌝ }
+    ensures { λ r. ⌜ Put (now (out .entry)) 0 (simulated.linesOf (length (now (input .entry)) / 24) place (simulated.from (now (t .entry)) (now (m .entry)) earlier) (now (input .entry))) (r .written) (now (out .exit)) × Counts (r .written) (now (out .exit)) ⌝ }
+    ensures { λ r. ⌜ simulated.from (now (t .exit)) (now (m .exit)) (r .accepted) ≡ simulated.after (length (now (input .entry)) / 24) (simulated.from (now (t .entry)) (now (m .entry)) earlier) (now (input .entry)) ⌝ }
+    ensures { λ r. ⌜ r .accepted ≤ place + length (now (input .entry)) / 24 ⌝ }
 {
     let n = input.len() / STEP_BYTES;
     let mut i: usize = 0;
     let mut written: usize = 0;
-    let mut taken = accepted_before;
+    let mut taken = earlier;
     while i < n {
-        let a = take(t, m, input, i * STEP_BYTES);
+        let a = take(t, m, input, STEP_BYTES * i);
         written = lines::put_line(out, written, place + i as u64, a);
         taken += accepted(a);
         i += 1;
@@ -124,7 +127,7 @@ pub fn take_steps(
 // The last lines, after so many steps, where so many bytes are left.
 pub fn put_last(out: &mut [u8], steps: u64, accepted: u64, left: usize) -> usize
     requires { ⌜ (64 ≤ length (now out)) × (accepted ≤ steps) ⌝ }
-    ensures { λ r. ⌜ Put (now (out .entry)) 0 (simulated.lastText steps accepted left) r (now (out .exit)) × (r ≤ 64) ⌝ }
+    ensures { λ r. ⌜ Put (now (out .entry)) 0 (simulated.lastText steps accepted left) r (now (out .exit)) × Counts r (now (out .exit)) ⌝ }
 {
     if left == 0 {
         return lines::put_end(out, 0, accepted, steps - accepted);

@@ -25,7 +25,7 @@ and-or : (p q : Bool) → p && not q ≡ not (not p || q)
 and-or true q = refl
 and-or false q = refl
 
-up-to : (m x : ℕ) → upTo m x ≡ not (ltb x 1 || ltb m x)
+pub up-to : (m x : ℕ) → upTo m x ≡ not (ltb x 1 || ltb m x)
 up-to m x = (λ i. leb-not 1 x i && leb-not x m i) ∙ and-not (ltb x 1) (ltb m x)
 
 whole-pages : (m : ℕ) → wholePages m ≡ not (not (eqb (m % 4096) 0) || (ltb (m / 4096) 1 || ltb 4096 (m / 4096)))

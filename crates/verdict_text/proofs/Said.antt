@@ -1,7 +1,7 @@
 -- Laws of what is said of an input, by each test; and that nothing beyond the machine's bytes and one more is asked.
 -- Assumes nothing.
 use mathlib.Core.Path.{_≡_, refl, sym, ap, _∙_, subst}
-use mathlib.Core.Bool.{Bool, true, false, not}
+use mathlib.Core.Bool.{Bool, true, false, not, _||_}
 use mathlib.Core.Logic.{⊎-elim}
 use mathlib.Core.List.{List, [], _∷_}
 use Prim.Native.Nat.{ℕ, _+_, _*_, _-_, _≤_, _<_, min}
@@ -19,10 +19,22 @@ use Rattle.text.specs.Text.{Put}
 use Rattle.text.proofs.Texts.{reworded}
 use Rattle.layout.specs.Layout.{tableWords, mostCores, mostPages}
 use Rattle.tables.specs.Sound.{upTo}
+use Rattle.tables.proofs.Answers.{up-to}
 use Rattle.judgement.specs.Report.{reportText}
 use Rattle.verdict_text.specs.Arguments.{argumentsIn, namedCore}
 use Rattle.verdict_text.specs.Wrong as wrong
 use Rattle.verdict_text.specs.Judged.{coresIn, pagesIn, machineBytes, ofMachine, ofInput, noCore, answered, judged}
+
+-- ---- a number from 1 on
+
+pub beyond : (m x : ℕ) → (ltb x 1 || ltb m x) ≡ true → upTo m x ≡ false
+beyond m x e = up-to m x ∙ ap not e
+
+pub inside : (m x : ℕ) → (ltb x 1 || ltb m x) ≡ false → upTo m x ≡ true
+inside m x e = up-to m x ∙ ap not e
+
+pub at-most : (m n : ℕ) → upTo m n ≡ true → n ≤ m
+at-most m n e = leb→le n m (and-right (leb 1 n) (leb n m) (subst T (sym e) tt))
 
 module _ (g : ℕ) (input : List ℕ) where
   -- ---- where words 0 and 1 are good
@@ -63,14 +75,23 @@ module _ (g : ℕ) (input : List ℕ) where
       unfolding ofInput
       said-machine p = rw (le-ltb (length input) 8 h, c, p) refl
 
--- the same with numbers that were read there
-pub said-read :
-    (g x y : ℕ) (input : List ℕ) → x ≡ coresIn input → y ≡ pagesIn input → 8 ≤ length input → upTo mostCores x ≡ true → upTo mostPages y ≡ true
-    → ofMachine g input x y ≡ ofInput g input
-said-read g x y input e f h c p =
-    ap (λ (k : ℕ). ofMachine g input k y) e
-    ∙ ap (λ (k : ℕ). ofMachine g input (coresIn input) k) f
-    ∙ said-machine g input h (ap (upTo mostCores) (sym e) ∙ c) (ap (upTo mostPages) (sym f) ∙ p)
+-- the same with numbers that were read there, and the code's tests of them
+module _ (g x : ℕ) (input : List ℕ) (e : x ≡ coresIn input) (h : 8 ≤ length input) where
+  pub read-bad-cores : (ltb x 1 || ltb 4 x) ≡ true → wrong.badCoresText x ≡ ofInput g input
+  read-bad-cores b = ap wrong.badCoresText e ∙ said-bad-cores g input h (ap (upTo mostCores) (sym e) ∙ beyond 4 x b)
+
+  module _ (y : ℕ) (f : y ≡ pagesIn input) (b : (ltb x 1 || ltb 4 x) ≡ false) where
+    few : upTo mostCores (coresIn input) ≡ true
+    few = ap (upTo mostCores) (sym e) ∙ inside 4 x b
+
+    pub read-bad-pages : (ltb y 1 || ltb 4096 y) ≡ true → wrong.badPagesText y ≡ ofInput g input
+    read-bad-pages p = ap wrong.badPagesText f ∙ said-bad-pages g input h few (ap (upTo mostPages) (sym f) ∙ beyond 4096 y p)
+
+    pub read-machine : (ltb y 1 || ltb 4096 y) ≡ false → ofMachine g input x y ≡ ofInput g input
+    read-machine p =
+        ap (λ (k : ℕ). ofMachine g input k y) e
+        ∙ ap (λ (k : ℕ). ofMachine g input (coresIn input) k) f
+        ∙ said-machine g input h few (ap (upTo mostPages) (sym f) ∙ inside 4096 y p)
 
 -- ---- the arguments
 
@@ -90,9 +111,6 @@ module _ (g : ℕ) (input : List ℕ) where
   pub said-group : (g ≡ 0 → ⊥) → ofInput g input ≡ answered g (argumentsIn []) input
   unfolding answered argumentsIn
   said-group e = rw (ne-eqb g 0 e) refl
-
-pub at-most : (m n : ℕ) → upTo m n ≡ true → n ≤ m
-at-most m n e = leb→le n m (and-right (leb 1 n) (leb n m) (subst T (sym e) tt))
 
 -- ---- how much is to be read: one byte more than the machine has, of which word 1 says the pages
 

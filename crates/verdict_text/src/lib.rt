@@ -9,7 +9,6 @@ ghost use Prim.Native.Nat.{_+_, _*_, _≤_};
 ghost use lib.ListN.{length, drop};
 ghost use Rattle.text.specs.Text.{Put};
 ghost use Rattle.word.specs.Bytes.{wordsIn};
-ghost use Rattle.tables.specs.Sound.{upTo};
 ghost use Rattle.judgement.specs.Report.{reportText};
 ghost use Rattle.verdict_text.specs.Judged as judged;
 ghost use Rattle.verdict_text.specs.inner.First.{first};
@@ -22,13 +21,6 @@ pub const MOST_ARGUMENTS: usize = 4096;
 
 // The most that the tables of four cores take.
 const TABLE_WORDS: usize = 1056;
-
-// Whether a number is 1 to m.
-fn is_up_to(m: u32, n: u32) -> bool
-    ensures { λ r. ⌜ r ≡ upTo m n ⌝ }
-{
-    (1 <= n) & (n <= m)
-}
 
 // The report, with room for the tables: words, and then memory.
 fn put_report(out: &mut [u8], input: &[u8], group: u32, t: &mut [u32]) -> usize
@@ -66,11 +58,11 @@ fn put_input(out: &mut [u8], input: &[u8], group: u32) -> usize
         return wrong::put_cut_head(out, input.len() as u64);
     }
     let cores = word::read_word(input, 0);
-    if !is_up_to(4, cores) {
+    if (cores < 1) | (4 < cores) {
         return wrong::put_bad_cores(out, cores);
     }
     let pages = word::read_word(input, 4);
-    if !is_up_to(4096, pages) {
+    if (pages < 1) | (4096 < pages) {
         return wrong::put_bad_pages(out, pages);
     }
     put_machine(out, input, group, cores, pages)
