@@ -135,7 +135,8 @@ fn put_end(out: &mut [u8], at: usize, t: &[u32], group: u32, words: &[u8]) -> us
     put(out, p, words)
 }
 
-// The report, by the maps of both sides and whether each reaches beyond memory. It is apart where there is no reason against it.
+// The report, by the maps of both sides and whether each reaches beyond memory. It is apart where there is no reason
+// against it.
 fn put_all(
     out: &mut [u8],
     t: &[u32],

@@ -1,16 +1,19 @@
 -- The parts of an input: the text of the steps is that of a part and then that of the rest, from where the part ended.
 -- Assumes nothing.
 use mathlib.Core.Path.{_≡_, refl, sym, ap, _∙_}
-use mathlib.Core.List.{List, [], _++_, append-assoc, append-nil}
-use Prim.Native.Nat.{ℕ, zero, suc, _+_, _*_, _≤_, _<_}
+use mathlib.Core.Bool.{Bool, true, false, _&&_}
+use mathlib.Core.List.{List, [], _∷_, _++_, append-assoc, append-nil}
+use Prim.Native.Nat.{ℕ, zero, suc, _+_, _*_, _/_, _%_, _≤_}
 use native.Mathlib.Omega.{arith}
-use lib.ListN.{length, take, drop, length-drop}
-use lib.Seq.{drop-drop, drop-at, take-at, drop-append-le, take-append-le}
+use lib.Dec.{leb}
+use lib.ListN.{length, take, drop, length-drop, length-append, List·getD-append}
+use lib.Seq.{drop-drop, drop-at, drop-append-le, take-append-le}
+use borrow.Author.Tests.{le-leb}
 use Rattle.word.specs.Bytes.{wordsIn}
 use Rattle.word.proofs.Bytes.{words-take}
 use Rattle.machine.specs.Step.{Stepped, step}
 use Rattle.lines.specs.Lines.{lineText}
-use Rattle.simulation.specs.Simulated.{Progress, stepAt, next, after, linesOf}
+use Rattle.simulation.specs.Simulated.{Progress, stepAt, after, linesOf, lastText, coresIn, pagesIn, memoryBytes, isSized, isStarted, firstText, started, stepsIn, stepsText, simulated, joined, partsText, Whole}
 
 -- ---- only the bytes of a step are asked
 
@@ -63,3 +66,91 @@ module _ (k : ℕ) (p : Progress) (a r : List ℕ) (h : length a ≡ 24 * k) (n 
 
   pub lines-part : (place : ℕ) → linesOf (k + n) place p (a ++ r) ≡ linesOf k place p a ++ linesOf n (place + k) (after k p a) r
   lines-part place = lines-more k p (a ++ r) n place ∙ rw (rest-is, after-front k p a r (omega arith), lines-front k place p a r (omega arith)) refl
+
+-- ---- all parts
+
+and-true : (p q : Bool) → (p && q) ≡ true → (p && true) ≡ true
+and-true true q e = refl
+and-true false q e = e
+
+-- what is said of the n steps in b from a place on
+abbrev rest-text : ℕ → Progress → List ℕ → ℕ → List ℕ
+rest-text place p b n = linesOf n place p b ++ lastText (place + n) (after n p b .accepted) (length b % 24)
+
+pub in-parts :
+    (place : ℕ) (p : Progress) (l : List (List ℕ)) (last : List ℕ) → Whole l
+    → partsText place p l last ≡ rest-text place p (joined l last) (length (joined l last) / 24)
+unfolding partsText
+in-parts place p [] last w = refl
+in-parts place p (a ∷ l) last (e, w) =
+    let b : List ℕ = joined l last in
+    let k : ℕ = length a / 24 in
+    let n : ℕ = length b / 24 in
+    let h : length a ≡ 24 * k = omega arith in
+    let m : length (a ++ b) / 24 ≡ k + n = omega (arith, length-append a b) in
+    let r : length (a ++ b) % 24 ≡ length b % 24 = omega (arith, length-append a b) in
+    let f : place + k + n ≡ place + (k + n) = omega arith in
+    let t : List ℕ = lastText (place + (k + n)) (after n (after k p a) b .accepted) (length b % 24) in
+    ap (λ (x : List ℕ). linesOf k place p a ++ x) (in-parts (place + k) (after k p a) l last w)
+    ∙ ap (λ (j : ℕ). linesOf k place p a ++ (linesOf n (place + k) (after k p a) b ++ lastText j (after n (after k p a) b .accepted) (length b % 24))) f
+    ∙ sym (append-assoc (linesOf k place p a) (linesOf n (place + k) (after k p a) b) t)
+    ∙ ap (λ (x : List ℕ). x ++ t) (sym (lines-part k p a b h n place))
+    ∙ ap (λ (q : Progress). linesOf (k + n) place p (a ++ b) ++ lastText (place + (k + n)) (q .accepted) (length b % 24)) (sym (after-part k p a b h n))
+    ∙ ap (λ (j : ℕ). linesOf (k + n) place p (a ++ b) ++ lastText (place + (k + n)) (after (k + n) p (a ++ b) .accepted) j) (sym r)
+    ∙ ap (rest-text place p (a ++ b)) (sym m)
+
+-- ---- the front and the parts
+
+module _ (f b : List ℕ) where
+  module _ (h : 2 ≤ length f) where
+    same-cores : coresIn (f ++ b) ≡ coresIn f
+    same-cores = List·getD-append f b 0 0 (omega arith)
+
+    same-pages : pagesIn (f ++ b) ≡ pagesIn f
+    same-pages = List·getD-append f b 0 1 (omega arith)
+
+    same-sized : isSized (f ++ b) ≡ isSized f
+    unfolding isSized
+    same-sized = rw (same-cores, same-pages, le-leb 2 (length f) h, le-leb 2 (length (f ++ b)) (omega (arith, length-append f b))) refl
+
+    -- where the two bytes are out of range nothing more is read
+    pub bad-front : isSized f ≡ false → simulated (f ++ b) ≡ firstText f
+    unfolding simulated isStarted
+    bad-front e = rw (same-sized, e) refl
+
+  module _ (s : isStarted f ≡ true) (l : length f ≡ 2 + memoryBytes f) where
+    long : 2 ≤ length f
+    long = omega arith
+
+    same-start : isStarted (f ++ b) ≡ true
+    unfolding isStarted
+    same-start =
+        rw (same-sized long, same-pages long, le-leb (2 + memoryBytes f) (length (f ++ b)) (omega (arith, length-append f b)))
+        (and-true (isSized f) (leb (2 + memoryBytes f) (length f)) s)
+
+    same-memory : take (memoryBytes f) (drop 2 (f ++ b)) ≡ take (memoryBytes f) (drop 2 f)
+    same-memory =
+        ap (take (memoryBytes f)) (drop-append-le 2 f b long)
+        ∙ take-append-le (memoryBytes f) (drop 2 f) b (omega (arith, length-drop 2 f))
+
+    steps-are : stepsIn (f ++ b) ≡ b
+    steps-are = rw (same-pages long) (drop-at f b (2 + memoryBytes f) l)
+
+    same-started : started (f ++ b) ≡ started f
+    same-started = rw (same-cores long, same-pages long, same-memory) refl
+
+    pub good-front : simulated (f ++ b) ≡ firstText f ++ stepsText (length b / 24) (started f) b
+    unfolding simulated
+    good-front = rw (same-start, s, steps-are, same-started) refl
+
+-- the whole text is that of the front and that of the parts, one after the other
+pub parts-join :
+    (f : List ℕ) (l : List (List ℕ)) (last : List ℕ) → isStarted f ≡ true → length f ≡ 2 + memoryBytes f → Whole l
+    → simulated (f ++ joined l last) ≡ firstText f ++ partsText 0 (started f) l last
+parts-join f l last s e w =
+    let b : List ℕ = joined l last in
+    let n : ℕ = length b / 24 in
+    let z : n ≡ 0 + n = omega arith in
+    good-front f b s e
+    ∙ ap (λ (j : ℕ). firstText f ++ (linesOf n 0 (started f) b ++ lastText j (after n (started f) b .accepted) (length b % 24))) z
+    ∙ ap (λ (x : List ℕ). firstText f ++ x) (sym (in-parts 0 (started f) l last w))

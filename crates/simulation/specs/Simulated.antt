@@ -1,7 +1,8 @@
 -- All that the run program says: a text by its input (01, 'The run program reads from standard input').
 -- Assumes nothing.
 use mathlib.Core.Bool.{Bool, _&&_}
-use mathlib.Core.List.{List, [], _++_}
+use mathlib.Core.Path.{_≡_}
+use mathlib.Core.List.{List, [], _∷_, _++_}
 use Prim.Native.Nat.{ℕ, zero, suc, _+_, _-_, _*_, _/_, _%_}
 use lib.Dec.{eqb, leb}
 use lib.ListN.{length, take, drop, getD}
@@ -85,3 +86,21 @@ stepsIn input = drop (2 + memoryBytes input) input
 
 unfoldable pub simulated : List ℕ → List ℕ
 simulated input = firstText input ++ (if isStarted input then stepsText (length (stepsIn input) / 24) (started input) (stepsIn input) else [])
+
+-- ---- the same in parts, as the program reads its input: the law `in-parts` of proofs/Parts joins them
+
+-- the steps of some parts and of a last one, as one list of bytes
+abbrev pub joined : List (List ℕ) → List ℕ → List ℕ
+joined [] last = last
+joined (a ∷ l) last = a ++ joined l last
+
+-- what is said of them, from a place on
+unfoldable pub partsText : ℕ → Progress → List (List ℕ) → List ℕ → List ℕ
+partsText place p [] last =
+    linesOf (length last / 24) place p last ++ lastText (place + length last / 24) (after (length last / 24) p last .accepted) (length last % 24)
+partsText place p (a ∷ l) last = linesOf (length a / 24) place p a ++ partsText (place + length a / 24) (after (length a / 24) p a) l last
+
+-- each part but the last has whole steps
+abbrev pub Whole : List (List ℕ) → Type 0
+Whole [] = Unit {0}
+Whole (a ∷ l) = (length a % 24 ≡ 0) × Whole l

@@ -1,4 +1,5 @@
-// The program of the verdict: the cores of a group as arguments, a machine from standard input, and what verdict_text says of both on standard output.
+// The program of the verdict: the cores of a group as arguments, a machine from standard input, and what verdict_text
+// says of both on standard output.
 mod stack;
 
 use libc::STDIN_FILENO;
@@ -11,19 +12,22 @@ ghost use Rattle.io.specs.Counts.{Counts};
 // Room for the arguments, and a byte by which longer ones are known.
 const ARGUMENT_ROOM: usize = 4097;
 
-// Room for the input of a machine of four cores, and a byte by which a longer one is known (verdict_text, the law `enough`): up to 1,024 pages a small room, beyond a large one.
+// Room for the input of a machine of four cores, and a byte by which a longer one is known (verdict_text, the law
+// `enough`): up to 1,024 pages a small room, beyond a large one.
 const SMALL_PAGES: u32 = 1024;
 
 const SMALL_ROOM: usize = 4198529;
 
 const LARGE_ROOM: usize = 16781441;
 
-// What the stack has to hold for each room, with all that is beside it and what the program is started with, which is up to a quarter: 6 and 24 MB.
+// What the stack has to hold for each room, with all that is beside it and what the program is started with, which is
+// up to a quarter: 6 and 24 MB.
 const SMALL_STACK: u64 = 6291456;
 
 const LARGE_STACK: u64 = 25165824;
 
-// Reads an argument to a place, with a zero byte after it, and answers the place after that; or the end, where it does not fit.
+// Reads an argument to a place, with a zero byte after it, and answers the place after that; or the end, where it does
+// not fit.
 fn read_argument(a: &mut [u8], at: usize, i: usize) -> usize
     requires { ⌜ at ≤ length (now a) ⌝ }
     ensures { λ r. ⌜ r ≤ length (now (a .entry)) ⌝ }
@@ -78,7 +82,8 @@ fn read_input(input: &mut [u8]) -> usize
     done
 }
 
-// Reads the input into the room lent, and judges it. A full room may lack some of it, where the machine has more pages than the room was made for.
+// Reads the input into the room lent, and judges it. A full room may lack some of it, where the machine has more pages
+// than the room was made for.
 fn judge_in(out: &mut [u8], a: &[u8], input: &mut [u8], pages: u32) -> usize
     requires { ⌜ (12288 ≤ length (now out)) × (8 ≤ length (now input)) ⌝ }
     ensures { λ r. ⌜ r ≤ 12288 ⌝ }
@@ -95,7 +100,9 @@ fn judge_in(out: &mut [u8], a: &[u8], input: &mut [u8], pages: u32) -> usize
     verdict_text::judge(a, &input[..n], out)
 }
 
-// These two call themselves on a text that is longer than any can be, so never. But the compiler takes a function that may call itself into no other: so the room is part of no other frame, and it is taken after the stack's limit was asked.
+// These two call themselves on a text that is longer than any can be, so never. But the compiler takes a function that
+// may call itself into no other: so the room is part of no other frame, and it is taken after the stack's limit was
+// asked.
 fn judge_small(out: &mut [u8], a: &[u8]) -> usize
     requires { ⌜ 12288 ≤ length (now out) ⌝ }
     ensures { λ r. ⌜ r ≤ 12288 ⌝ }

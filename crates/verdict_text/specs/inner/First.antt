@@ -1,5 +1,5 @@
--- The first of the arguments in bytes, and what follows it. It serves contracts and proofs inside alone (`first-argument` of proofs/Named ties it to
--- the arguments).
+-- The first of the arguments in bytes, and what follows it. It serves contracts and proofs inside alone
+-- (`first-argument` of proofs/Named ties it to the arguments).
 -- Assumes nothing.
 use mathlib.Core.List.{List, [], _∷_}
 use Prim.Native.Nat.{ℕ}
