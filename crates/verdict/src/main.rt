@@ -127,11 +127,14 @@ fn judge_large(out: &mut [u8], a: &[u8]) -> usize
     r
 }
 
-// Judges in the room that the stack allows.
+// Judges in the room that the stack allows; where the arguments are wrong, no input is waited for.
 fn judge(out: &mut [u8], a: &[u8]) -> usize
     requires { ⌜ 12288 ≤ length (now out) ⌝ }
     ensures { λ r. ⌜ Counts r (now (out .exit)) ⌝ }
 {
+    if !verdict_text::asks_input(a) {
+        return verdict_text::judge(a, b"", out);
+    }
     let limit = stack::limit();
     if limit < SMALL_STACK {
         return text::put(

@@ -7,9 +7,9 @@ use mathlib.Core.List.{List, [], _∷_}
 use Prim.Native.Nat.{ℕ, _+_, _*_, _-_, _≤_, _<_, min}
 use native.Mathlib.Omega.{arith}
 use lib.Dec.{T, eqb, ltb, leb, leb→le}
-use lib.ListN.{length, take, drop, replicate, length-drop, length-replicate}
+use lib.ListN.{length, take, drop, replicate, length-drop, length-replicate, drop-of-length-le}
 use lib.Seq.{take-all, take-take, length-take-le}
-use borrow.Author.Tests.{lt-ltb, le-ltb, eq-eqb, ne-eqb}
+use borrow.Author.Tests.{lt-ltb, le-ltb, eq-eqb, ne-eqb, eqb-true, not-false}
 use Rattle.word.specs.Word.{if_then_else_, withBit}
 use Rattle.word.specs.Bytes.{bytesAt, wordsIn}
 use Rattle.word.proofs.Laws.{side}
@@ -23,6 +23,8 @@ use Rattle.tables.proofs.Answers.{up-to}
 use Rattle.judgement.specs.Report.{reportText}
 use Rattle.verdict_text.specs.Arguments.{argumentsIn, namedCore}
 use Rattle.verdict_text.specs.Wrong as wrong
+use Rattle.verdict_text.specs.inner.First.{first}
+use Rattle.verdict_text.proofs.Named.{wrong-argument}
 use Rattle.verdict_text.specs.Judged.{coresIn, pagesIn, machineBytes, ofMachine, ofInput, noCore, answered, judged}
 
 -- ---- a number from 1 on
@@ -200,6 +202,25 @@ module _ (s f : List ℕ) (at n : ℕ) (h : n ≤ length s) (e : take n s ≡ f)
       let t : take 16 f ≡ take (at + n - at) s = take-all 16 f (omega (arith, length-is)) ∙ sym e ∙ ap (λ (j : ℕ). take j s) (sym p) in
       rw (t, le-ltb 16 (length f) (omega (arith, length-is))) refl
 
--- the bytes that a text was put into, in other words
-pub put-from : {b d : List ℕ} {text : List ℕ} {r : ℕ} {c : List ℕ} → b ≡ d → Put b 0 text r c → Put d 0 text r c
-put-from {b} {d} {text} {r} {c} e p = subst (λ (x : List ℕ). Put x 0 text r c) e p
+-- ---- the arguments as they were gone through: the cores of g up to a place
+
+module _ (a : List ℕ) (h : length a ≤ 4096) (g at : ℕ) (A : (input : List ℕ) → answered 0 (argumentsIn a) input ≡ answered g (argumentsIn (drop at a)) input) where
+  said-from : (input : List ℕ) → judged a input ≡ answered g (argumentsIn (drop at a)) input
+  said-from input = sym (said-by-arguments a input h) ∙ A input
+
+  pub said-wrong : at < length a → namedCore (first (drop at a)) ≡ 4 → (input : List ℕ) → judged a input ≡ noCore (first (drop at a))
+  said-wrong l e input = said-from input ∙ wrong-argument a at l g input e
+
+  module _ (l : length a ≤ at) where
+    said-end : (input : List ℕ) → judged a input ≡ answered g (argumentsIn []) input
+    said-end input = said-from input ∙ ap (λ (x : List ℕ). answered g (argumentsIn x) input) (drop-of-length-le a l)
+
+    pub said-none : g ≡ 0 → (input : List ℕ) → judged a input ≡ wrong.noGroupText
+    said-none e input = said-end input ∙ sym (said-no-group g input e)
+
+    pub said-asked : (g ≡ 0 → ⊥) → (input : List ℕ) → judged a input ≡ ofInput g input
+    said-asked e input = said-end input ∙ sym (said-group g input e)
+
+    -- 'no group' is said without the input
+    pub asks-none : not (eqb g 0) ≡ false → (input : List ℕ) → judged a input ≡ judged a []
+    asks-none e input = let z : g ≡ 0 = eqb-true g 0 (not-false (eqb g 0) e) in said-none z input ∙ sym (said-none z [])

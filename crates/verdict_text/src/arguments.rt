@@ -1,9 +1,17 @@
 // One of the arguments in bytes, each of which ends in a zero byte (specs/Arguments.antt).
 ghost use mathlib.Core.Path.{_≡_};
-ghost use Prim.Native.Nat.{_+_, _≤_, _<_};
+ghost use mathlib.Core.List.{List};
+ghost use Prim.Native.Nat.{ℕ, _+_, _≤_, _<_};
 ghost use lib.ListN.{length, take, drop};
-ghost use Rattle.verdict_text.specs.Arguments.{namedCore};
+ghost use Rattle.verdict_text.specs.Arguments.{argumentsIn, namedCore};
+ghost use Rattle.verdict_text.specs.Judged.{answered};
 ghost use Rattle.verdict_text.specs.inner.First.{first};
+
+// The group that the arguments name, up to the first that names no core; and the place of that one, or the end.
+pub struct Asked {
+    pub group: u32,
+    pub at: usize,
+}
 
 // The core that the argument at a place names, or 4.
 pub fn core_at(a: &[u8], at: usize) -> u32
@@ -41,4 +49,22 @@ pub fn length_at(a: &[u8], at: usize) -> usize
         end += 1;
     }
     end - at
+}
+
+pub fn ask(a: &[u8]) -> Asked
+    requires { ⌜ length (now a) ≤ 4096 ⌝ }
+    ensures { λ r. ⌜ ((input : List ℕ) → answered 0 (argumentsIn (now (a .entry))) input ≡ answered (r .group) (argumentsIn (drop (r .at) (now (a .entry)))) input) ⌝ }
+    ensures { λ r. ⌜ (r .at < length (now (a .entry)) → namedCore (first (drop (r .at) (now (a .entry)))) ≡ 4) ⌝ }
+{
+    let mut group: u32 = 0;
+    let mut at: usize = 0;
+    while at < a.len() {
+        let k = core_at(a, at);
+        if 3 < k {
+            return Asked { group, at };
+        }
+        group = word::put_bit(group, k, 1);
+        at += 2;
+    }
+    Asked { group, at }
 }

@@ -5,7 +5,9 @@ mod wrong;
 use layout::BLOCK_WORDS;
 use layout::HEADER_WORDS;
 ghost use mathlib.Core.Path.{_≡_};
-ghost use Prim.Native.Nat.{_+_, _*_, _≤_};
+ghost use mathlib.Core.Bool.{false};
+ghost use mathlib.Core.List.{List, []};
+ghost use Prim.Native.Nat.{ℕ, _+_, _*_, _≤_};
 ghost use lib.ListN.{length, drop};
 ghost use Rattle.text.specs.Text.{Put};
 ghost use Rattle.word.specs.Bytes.{wordsIn};
@@ -88,18 +90,30 @@ pub fn judge(a: &[u8], input: &[u8], out: &mut [u8]) -> usize
     if MOST_ARGUMENTS < a.len() {
         return wrong::put_long_arguments(out);
     }
-    let mut group: u32 = 0;
-    let mut at: usize = 0;
-    while at < a.len() {
-        let k = arguments::core_at(a, at);
-        if 3 < k {
-            return put_no_core(out, a, at);
-        }
-        group = word::put_bit(group, k, 1);
-        at += 2;
+    let asked = arguments::ask(a);
+    let at = asked.at;
+    if at < a.len() {
+        return put_no_core(out, a, at);
     }
+    let group = asked.group;
     if group == 0 {
         return wrong::put_no_group(out);
     }
     put_input(out, input, group)
+}
+
+// Whether the input has to be read: without it, the same is said of any.
+pub fn asks_input(a: &[u8]) -> bool
+    ensures { λ r. ⌜ ((input : List ℕ) → r ≡ false → judged.judged (now (a .entry)) input ≡ judged.judged (now (a .entry)) []) ⌝ }
+{
+    if MOST_ARGUMENTS < a.len() {
+        return false;
+    }
+    let asked = arguments::ask(a);
+    let at = asked.at;
+    let group = asked.group;
+    if at < a.len() {
+        return false;
+    }
+    group != 0
 }
