@@ -236,6 +236,23 @@ def sizes(program, judged, map_):
     return failed
 
 
+def unread(program, judged):
+    """Wrong arguments are answered though no input comes and none ends."""
+    failed = 0
+    for group in BAD_GROUPS:
+        with subprocess.Popen([program] + group, stdin=subprocess.PIPE, stdout=subprocess.PIPE) as asking:
+            try:
+                asking.wait(timeout=20)
+                got = asking.stdout.read().decode()
+            except subprocess.TimeoutExpired:
+                asking.kill()
+                got = "nothing in 20 seconds"
+        if got != expected(judged, group, b""):
+            failed += 1
+            print("verdict: %r and no input: %r" % ([g[:20] for g in group[:3]], got[:300]))
+    return failed
+
+
 GROUPS = [[str(k) for k in range(4) if n >> k & 1] for n in range(1, 16)] + [["3", "3"], ["2", "0", "2"], ["3", "1"], ["2"] * 2048]
 BAD_GROUPS = [[], [""], ["4"], ["-1"], ["00"], ["x7"], ["0", "x"], ["\x01\x7f"], ["é"], ["1" * 16], ["1" * 17], ["0"] * 300 + ["9"], ["'"], ["%s%n"], ["/"], [":"]]
 BAD_GROUPS += [["3", ""], ["a" * 4095], ["a" * 4096], ["a" * 5000], ["0"] * 2049, ["0"] * 2047 + [""], ["0"] * 2048 + [""], ["0"] * 3000, ["0", "a" * 4095]]
@@ -258,7 +275,7 @@ def main():
     count = int(sys.argv[4]) if len(sys.argv) > 4 else 3000
     good = [open("%s/%s.bin" % (maps, name), "rb").read() for name in ("feeder", "competitor", "own_table")]
     r = random.Random(20261116)
-    failed, number, reports, apart, stopped = sizes(program, judged, good[0]), 0, 0, 0, 0
+    failed, number, reports, apart, stopped = unread(program, judged) + sizes(program, judged, good[0]), 0, 0, 0, 0
     for damage, data, group in questions(r, good, count):
         said = expected(judged, group, data)
         got = asked(program, group, data, 8192)
