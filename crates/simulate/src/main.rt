@@ -1,16 +1,16 @@
-// The run program of 01: a machine and its steps from standard input, what `simulation` says of them on standard output.
+// The run program of 01: a machine and its steps from standard input, and what `simulation` says of them on standard
+// output.
 use layout::BLOCK_WORDS;
 use layout::HEADER_WORDS;
 use libc::STDIN_FILENO;
 use libc::STDOUT_FILENO;
-use simulation::STEP_BYTES;
 ghost use mathlib.Core.Path.{_≡_};
 ghost use mathlib.Core.Bool.{true};
 ghost use Prim.Native.Nat.{_+_, _*_, _≤_, _<_, _^_};
 ghost use lib.ListN.{length};
 ghost use Rattle.io.specs.Counts.{Counts};
 ghost use Rattle.layout.specs.Layout.{tableWords};
-ghost use Rattle.simulation.specs.Simulated.{isStarted, coresIn};
+ghost use Rattle.simulation.specs.Simulated.{isStarted, coresByte};
 
 // Steps go in parts of 1,024: so many are read and answered at a time.
 const PART: usize = 24 * 1024;
@@ -36,9 +36,9 @@ fn take_part(t: &mut [u32], m: &mut [u8], place: u64, accepted: u64) -> Part
     let written = taken.written;
     io::write_all(STDOUT_FILENO, &out[..written]);
     Part {
-        steps: (n / STEP_BYTES) as u64,
+        steps: taken.steps,
         accepted: taken.accepted,
-        left: n % STEP_BYTES,
+        left: taken.left,
         more: n == PART,
     }
 }
@@ -82,7 +82,7 @@ fn read_memory(front: &mut [u8], sizes: usize) -> usize
 
 // Makes the machine that the front of the input asks for, and takes its steps.
 fn run(front: &mut [u8], tables: &mut [u32])
-    requires { ⌜ (isStarted (now front) ≡ true) × (length (now tables) ≡ tableWords (coresIn (now front))) ⌝ }
+    requires { ⌜ (isStarted (now front) ≡ true) × (length (now tables) ≡ tableWords (coresByte (now front))) ⌝ }
 {
     simulation::start(front, tables);
     let end = 2 + simulation::memory_bytes(front);

@@ -16,7 +16,7 @@ use Rattle.layout.specs.Layout.{tableWords, mostCores}
 use Rattle.tables.specs.Sound.{upTo}
 use Rattle.tables.specs.Make.{made, madeOr, refusal}
 use Rattle.tables.proofs.Answers.{up-to, accept}
-use Rattle.simulation.specs.Simulated.{coresIn, pagesIn, memoryBytes, isSized, isStarted, firstText}
+use Rattle.simulation.specs.Simulated.{coresByte, pagesByte, memoryBytes, isSized, isStarted, firstText}
 
 -- what memory_bytes answers
 abbrev pub asked : List ℕ → ℕ
@@ -27,23 +27,23 @@ module _ (input : List ℕ) where
   unfolding isSized
   none-short h = rw (lt-leb 2 (length input) h) refl
 
-  module _ (h : 2 ≤ length input) (x : ℕ) (e : x ≡ coresIn input) where
+  module _ (h : 2 ≤ length input) (x : ℕ) (e : x ≡ coresByte input) where
     pub none-cores : (ltb x 1 || ltb 4 x) ≡ true → 0 ≡ asked input
     unfolding isSized
-    none-cores b = let f : upTo mostCores (coresIn input) ≡ false = ap (upTo 4) (sym e) ∙ up-to 4 x ∙ ap not b in rw (le-leb 2 (length input) h, f) refl
+    none-cores b = let f : upTo mostCores (coresByte input) ≡ false = ap (upTo 4) (sym e) ∙ up-to 4 x ∙ ap not b in rw (le-leb 2 (length input) h, f) refl
 
-    module _ (b : (ltb x 1 || ltb 4 x) ≡ false) (y : ℕ) (g : y ≡ pagesIn input) where
-      few : upTo mostCores (coresIn input) ≡ true
+    module _ (b : (ltb x 1 || ltb 4 x) ≡ false) (y : ℕ) (g : y ≡ pagesByte input) where
+      few : upTo mostCores (coresByte input) ≡ true
       few = ap (upTo 4) (sym e) ∙ up-to 4 x ∙ ap not b
 
       pub none-pages : (ltb y 1 || ltb 8 y) ≡ true → 0 ≡ asked input
       unfolding isSized
-      none-pages d = let f : upTo 8 (pagesIn input) ≡ false = ap (upTo 8) (sym g) ∙ up-to 8 y ∙ ap not d in rw (le-leb 2 (length input) h, few, f) refl
+      none-pages d = let f : upTo 8 (pagesByte input) ≡ false = ap (upTo 8) (sym g) ∙ up-to 8 y ∙ ap not d in rw (le-leb 2 (length input) h, few, f) refl
 
       pub all-pages : (ltb y 1 || ltb 8 y) ≡ false → 4096 * y ≡ asked input
       unfolding isSized
       all-pages d =
-          let f : upTo 8 (pagesIn input) ≡ true = ap (upTo 8) (sym g) ∙ up-to 8 y ∙ ap not d in
+          let f : upTo 8 (pagesByte input) ≡ true = ap (upTo 8) (sym g) ∙ up-to 8 y ∙ ap not d in
           ap (λ (k : ℕ). 4096 * k) g ∙ rw (le-leb 2 (length input) h, few, f) refl
 
 -- at most 8 pages
@@ -55,10 +55,10 @@ at-most x e = let h : x ≤ 8 = leb→le x 8 (and-right (leb 1 x) (leb x 8) (sub
 -- the numbers of an input that is started
 pub record Start (input : List ℕ) : Type 0 where
   pub long : 2 ≤ length input
-  pub some-cores : 1 ≤ coresIn input
-  pub few-cores : coresIn input ≤ 4
-  pub some-pages : 1 ≤ pagesIn input
-  pub few-pages : pagesIn input ≤ 8
+  pub some-cores : 1 ≤ coresByte input
+  pub few-cores : coresByte input ≤ 4
+  pub some-pages : 1 ≤ pagesByte input
+  pub few-pages : pagesByte input ≤ 8
   pub whole : 2 + memoryBytes input ≤ length input
   pub asked-is : asked input ≡ memoryBytes input
 
@@ -71,15 +71,15 @@ unfolding isStarted isSized
 start-of input e =
     let a : T (isSized input) = and-left (isSized input) (leb (2 + memoryBytes input) (length input)) (subst T (sym e) tt) in
     let w : T (leb (2 + memoryBytes input) (length input)) = and-right (isSized input) (leb (2 + memoryBytes input) (length input)) (subst T (sym e) tt) in
-    let r : T (upTo mostCores (coresIn input) && upTo 8 (pagesIn input)) = and-right (leb 2 (length input)) (upTo mostCores (coresIn input) && upTo 8 (pagesIn input)) a in
-    let c : T (upTo mostCores (coresIn input)) = and-left (upTo mostCores (coresIn input)) (upTo 8 (pagesIn input)) r in
-    let p : T (upTo 8 (pagesIn input)) = and-right (upTo mostCores (coresIn input)) (upTo 8 (pagesIn input)) r in
+    let r : T (upTo mostCores (coresByte input) && upTo 8 (pagesByte input)) = and-right (leb 2 (length input)) (upTo mostCores (coresByte input) && upTo 8 (pagesByte input)) a in
+    let c : T (upTo mostCores (coresByte input)) = and-left (upTo mostCores (coresByte input)) (upTo 8 (pagesByte input)) r in
+    let p : T (upTo 8 (pagesByte input)) = and-right (upTo mostCores (coresByte input)) (upTo 8 (pagesByte input)) r in
     record {
-      long = leb→le 2 (length input) (and-left (leb 2 (length input)) (upTo mostCores (coresIn input) && upTo 8 (pagesIn input)) a);
-      some-cores = leb→le 1 (coresIn input) (and-left (leb 1 (coresIn input)) (leb (coresIn input) 4) c);
-      few-cores = leb→le (coresIn input) 4 (and-right (leb 1 (coresIn input)) (leb (coresIn input) 4) c);
-      some-pages = leb→le 1 (pagesIn input) (and-left (leb 1 (pagesIn input)) (leb (pagesIn input) 8) p);
-      few-pages = leb→le (pagesIn input) 8 (and-right (leb 1 (pagesIn input)) (leb (pagesIn input) 8) p);
+      long = leb→le 2 (length input) (and-left (leb 2 (length input)) (upTo mostCores (coresByte input) && upTo 8 (pagesByte input)) a);
+      some-cores = leb→le 1 (coresByte input) (and-left (leb 1 (coresByte input)) (leb (coresByte input) 4) c);
+      few-cores = leb→le (coresByte input) 4 (and-right (leb 1 (coresByte input)) (leb (coresByte input) 4) c);
+      some-pages = leb→le 1 (pagesByte input) (and-left (leb 1 (pagesByte input)) (leb (pagesByte input) 8) p);
+      few-pages = leb→le (pagesByte input) 8 (and-right (leb 1 (pagesByte input)) (leb (pagesByte input) 8) p);
       whole = leb→le (2 + memoryBytes input) (length input) w;
       asked-is = rw (is-true (isSized input) a) refl;
     }
@@ -88,8 +88,8 @@ start-of input e =
 sized-some : (input : List ℕ) → isSized input ≡ true → 0 < memoryBytes input
 unfolding isSized
 sized-some input e =
-    let r : T (upTo mostCores (coresIn input) && upTo 8 (pagesIn input)) = and-right (leb 2 (length input)) (upTo mostCores (coresIn input) && upTo 8 (pagesIn input)) (subst T (sym e) tt) in
-    let p : 1 ≤ pagesIn input = leb→le 1 (pagesIn input) (and-left (leb 1 (pagesIn input)) (leb (pagesIn input) 8) (and-right (upTo mostCores (coresIn input)) (upTo 8 (pagesIn input)) r)) in
+    let r : T (upTo mostCores (coresByte input) && upTo 8 (pagesByte input)) = and-right (leb 2 (length input)) (upTo mostCores (coresByte input) && upTo 8 (pagesByte input)) (subst T (sym e) tt) in
+    let p : 1 ≤ pagesByte input = leb→le 1 (pagesByte input) (and-left (leb 1 (pagesByte input)) (leb (pagesByte input) 8) (and-right (upTo mostCores (coresByte input)) (upTo 8 (pagesByte input)) r)) in
     omega arith
 
 by-size : (input : List ℕ) (n : ℕ) → n ≡ asked input → (b : Bool) → isSized input ≡ b → (ltb 0 n && leb (2 + n) (length input)) ≡ (isSized input && leb (2 + memoryBytes input) (length input))
@@ -110,11 +110,11 @@ first-bad input e = rw e refl
 
 module _ (input : List ℕ) (S : Start input) (t : List ℕ) where
   pub makes :
-      (x m l : ℕ) → x ≡ coresIn input → m ≡ memoryBytes input → l ≡ tableWords (coresIn input)
-      → madeOr (refusal x m l) x m t ≡ made (coresIn input) (pagesIn input)
+      (x m l : ℕ) → x ≡ coresByte input → m ≡ memoryBytes input → l ≡ tableWords (coresByte input)
+      → madeOr (refusal x m l) x m t ≡ made (coresByte input) (pagesByte input)
   makes x m l c e f =
-      let n : ℕ = coresIn input in
-      let p : ℕ = pagesIn input in
+      let n : ℕ = coresByte input in
+      let p : ℕ = pagesByte input in
       let d : 4096 * p / 4096 ≡ p = omega arith in
       let r : 4096 * p % 4096 ≡ 0 = omega arith in
       let a : (ltb n 1 || ltb 4 n) ≡ false = rw (le-ltb n 1 (S .some-cores), le-ltb 4 n (S .few-cores)) refl in

@@ -16,44 +16,44 @@ use Rattle.steps.specs.declared.Answer.{Answer}
 use Rattle.steps.specs.declared.Answer.the-variants.{Done, Interrupt, Refused}
 use Rattle.machine.specs.Step.{Stepped, step, isAccepted}
 use Rattle.lines.specs.Lines.{lineText, endText}
-use Rattle.simulation.specs.Simulated.{Progress, from, stepAt, next, after, linesOf, lastText}
+use Rattle.simulation.specs.Simulated.{Progress, from, stepAt, stepped, afterSteps, stepLines, lastText}
 
 -- the words of a step, read from its place to the end
 pub step-words : (s b : List ℕ) (at : ℕ) → s ≡ wordsIn 6 (take (length b - at) (drop at b)) → s ≡ wordsIn 6 (drop at b)
 step-words s b at e = e ∙ ap (wordsIn 6) (take-all (length b - at) (drop at b) (omega (arith, length-drop at b)))
 
-pub no-lines : (o : List ℕ) (place : ℕ) (p : Progress) (b : List ℕ) → Put o 0 (linesOf 0 place p b) 0 o
-unfolding linesOf
+pub no-lines : (o : List ℕ) (place : ℕ) (p : Progress) (b : List ℕ) → Put o 0 (stepLines 0 place p b) 0 o
+unfolding stepLines
 no-lines o place p b = nothing o 0
 
-pub none-after : (p : Progress) (b : List ℕ) → p ≡ after 0 p b
-unfolding after
+pub none-after : (p : Progress) (b : List ℕ) → p ≡ afterSteps 0 p b
+unfolding afterSteps
 none-after p b = refl
 
-module _ (i : ℕ) (p : Progress) (b t m : List ℕ) (k : ℕ) (e : from t m k ≡ after i p b) where
-  taken-is : step t m (wordsIn 6 (drop (24 * i) b)) ≡ stepAt (after i p b) b (24 * i)
+module _ (i : ℕ) (p : Progress) (b t m : List ℕ) (k : ℕ) (e : from t m k ≡ afterSteps i p b) where
+  taken-is : step t m (wordsIn 6 (drop (24 * i) b)) ≡ stepAt (afterSteps i p b) b (24 * i)
   taken-is = ap (λ (q : Progress). stepAt q b (24 * i)) e
 
   module _ (a : Answer) (f : a ≡ step t m (wordsIn 6 (drop (24 * i) b)) .answer) where
     pub lines-next :
-        (place : ℕ) {o : List ℕ} {w : ℕ} {c : List ℕ} {v : ℕ} {d : List ℕ} → Put o 0 (linesOf i place p b) w c → Put c w (lineText (place + i) a) v d
-        → Put o 0 (linesOf (i + 1) place p b) v d
-    unfolding linesOf
+        (place : ℕ) {o : List ℕ} {w : ℕ} {c : List ℕ} {v : ℕ} {d : List ℕ} → Put o 0 (stepLines i place p b) w c → Put c w (lineText (place + i) a) v d
+        → Put o 0 (stepLines (i + 1) place p b) v d
+    unfolding stepLines
     lines-next place P Q =
-        let g : a ≡ stepAt (after i p b) b (24 * i) .answer = f ∙ ap (λ (s : Stepped). s .answer) taken-is in
+        let g : a ≡ stepAt (afterSteps i p b) b (24 * i) .answer = f ∙ ap (λ (s : Stepped). s .answer) taken-is in
         rw (add-one i) (follow P (reworded (ap (lineText (place + i)) g) Q))
 
     pub after-next :
         (t′ m′ : List ℕ) (k′ : ℕ) → t′ ≡ step t m (wordsIn 6 (drop (24 * i) b)) .tables → m′ ≡ step t m (wordsIn 6 (drop (24 * i) b)) .memory
-        → k′ ≡ k + flag (isAccepted a) → from t′ m′ k′ ≡ after (i + 1) p b
-    unfolding after
+        → k′ ≡ k + flag (isAccepted a) → from t′ m′ k′ ≡ afterSteps (i + 1) p b
+    unfolding afterSteps
     after-next t′ m′ k′ x y z =
         let s : Stepped = step t m (wordsIn 6 (drop (24 * i) b)) in
         rw (add-one i)
         (ap (λ (l : List ℕ). from l m′ k′) x
         ∙ ap (λ (l : List ℕ). from (s .tables) l k′) y
         ∙ ap (λ (n : ℕ). from (s .tables) (s .memory) n) (z ∙ ap (λ (r : Answer). k + flag (isAccepted r)) f)
-        ∙ ap (λ (q : Progress). next q (stepAt q b (24 * i))) e)
+        ∙ ap (λ (q : Progress). stepped q (stepAt q b (24 * i))) e)
 
 -- ---- the last lines
 
@@ -80,8 +80,8 @@ module _ (i n : ℕ) (h : i ≤ n) (k : n ≤ i) (p : Progress) (b : List ℕ) w
   all : i ≡ n
   all = omega arith
 
-  pub lines-all : (place : ℕ) {o : List ℕ} {w : ℕ} {c : List ℕ} → Put o 0 (linesOf i place p b) w c → Put o 0 (linesOf n place p b) w c
-  lines-all place P = reworded (ap (λ (j : ℕ). linesOf j place p b) all) P
+  pub lines-all : (place : ℕ) {o : List ℕ} {w : ℕ} {c : List ℕ} → Put o 0 (stepLines i place p b) w c → Put o 0 (stepLines n place p b) w c
+  lines-all place P = reworded (ap (λ (j : ℕ). stepLines j place p b) all) P
 
-  pub after-all : {q : Progress} → q ≡ after i p b → q ≡ after n p b
-  after-all e = e ∙ ap (λ (j : ℕ). after j p b) all
+  pub after-all : {q : Progress} → q ≡ afterSteps i p b → q ≡ afterSteps n p b
+  after-all e = e ∙ ap (λ (j : ℕ). afterSteps j p b) all

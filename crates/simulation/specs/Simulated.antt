@@ -1,8 +1,7 @@
 -- All that the run program says: a text by its input (01, 'The run program reads from standard input').
 -- Assumes nothing.
 use mathlib.Core.Bool.{Bool, _&&_}
-use mathlib.Core.Path.{_≡_}
-use mathlib.Core.List.{List, [], _∷_, _++_}
+use mathlib.Core.List.{List, [], _++_}
 use Prim.Native.Nat.{ℕ, zero, suc, _+_, _-_, _*_, _/_, _%_}
 use lib.Dec.{eqb, leb}
 use lib.ListN.{length, take, drop, getD}
@@ -17,18 +16,18 @@ use Rattle.lines.specs.Lines.{lineText, endText}
 
 -- ---- the front of the input: a byte of cores, one of pages, 1 to 8, and the memory
 
-abbrev pub coresIn : List ℕ → ℕ
-coresIn input = getD input 0 0
+abbrev pub coresByte : List ℕ → ℕ
+coresByte input = getD input 0 0
 
-abbrev pub pagesIn : List ℕ → ℕ
-pagesIn input = getD input 1 0
+abbrev pub pagesByte : List ℕ → ℕ
+pagesByte input = getD input 1 0
 
 abbrev pub memoryBytes : List ℕ → ℕ
-memoryBytes input = pageBytes * pagesIn input
+memoryBytes input = pageBytes * pagesByte input
 
 -- two bytes in their ranges
 unfoldable pub isSized : List ℕ → Bool
-isSized input = leb 2 (length input) && (upTo mostCores (coresIn input) && upTo 8 (pagesIn input))
+isSized input = leb 2 (length input) && (upTo mostCores (coresByte input) && upTo 8 (pagesByte input))
 
 -- and a whole memory after them
 unfoldable pub isStarted : List ℕ → Bool
@@ -45,22 +44,22 @@ pub record Progress : Type 0 where
 abbrev pub from : List ℕ → List ℕ → ℕ → Progress
 from t m n = record { tables = t; memory = m; accepted = n }
 
--- the step whose six words stand from a place on
+-- the step whose six words begin at a byte
 abbrev pub stepAt : Progress → List ℕ → ℕ → Stepped
 stepAt p b at = step (p .tables) (p .memory) (wordsIn 6 (drop at b))
 
-abbrev pub next : Progress → Stepped → Progress
-next p s = from (s .tables) (s .memory) (p .accepted + flag (isAccepted (s .answer)))
+abbrev pub stepped : Progress → Stepped → Progress
+stepped p s = from (s .tables) (s .memory) (p .accepted + flag (isAccepted (s .answer)))
 
 -- after the first n steps
-unfoldable pub after : ℕ → Progress → List ℕ → Progress
-after zero p b = p
-after (suc n) p b = next (after n p b) (stepAt (after n p b) b (24 * n))
+unfoldable pub afterSteps : ℕ → Progress → List ℕ → Progress
+afterSteps zero p b = p
+afterSteps (suc n) p b = stepped (afterSteps n p b) (stepAt (afterSteps n p b) b (24 * n))
 
--- a line for each of the first n steps, of which the first has a place
-unfoldable pub linesOf : ℕ → ℕ → Progress → List ℕ → List ℕ
-linesOf zero place p b = []
-linesOf (suc n) place p b = linesOf n place p b ++ lineText (place + n) (stepAt (after n p b) b (24 * n) .answer)
+-- a line for each of the first n steps, of which the first has the number `place`
+unfoldable pub stepLines : ℕ → ℕ → Progress → List ℕ → List ℕ
+stepLines zero place p b = []
+stepLines (suc n) place p b = stepLines n place p b ++ lineText (place + n) (stepAt (afterSteps n p b) b (24 * n) .answer)
 
 -- ---- the text
 
@@ -72,13 +71,13 @@ firstText input = if isStarted input then ascii "step answer\n" else ascii "bad\
 unfoldable pub lastText : ℕ → ℕ → ℕ → List ℕ
 lastText n accepted left = (if eqb left 0 then [] else ascii "cut\n") ++ endText accepted (n - accepted)
 
--- a machine is made with the memory
+-- at the start: tables as they are made, the memory of the input, no step accepted
 abbrev pub started : List ℕ → Progress
-started input = from (made (coresIn input) (pagesIn input)) (take (memoryBytes input) (drop 2 input)) 0
+started input = from (made (coresByte input) (pagesByte input)) (take (memoryBytes input) (drop 2 input)) 0
 
 -- what is said of n steps in b
 abbrev pub stepsText : ℕ → Progress → List ℕ → List ℕ
-stepsText n p b = linesOf n 0 p b ++ lastText n (after n p b .accepted) (length b % 24)
+stepsText n p b = stepLines n 0 p b ++ lastText n (afterSteps n p b .accepted) (length b % 24)
 
 -- where the steps stand
 abbrev pub stepsIn : List ℕ → List ℕ
@@ -86,21 +85,3 @@ stepsIn input = drop (2 + memoryBytes input) input
 
 unfoldable pub simulated : List ℕ → List ℕ
 simulated input = firstText input ++ (if isStarted input then stepsText (length (stepsIn input) / 24) (started input) (stepsIn input) else [])
-
--- ---- the same in parts, as the program reads its input: the law `in-parts` of proofs/Parts joins them
-
--- the steps of some parts and of a last one, as one list of bytes
-abbrev pub joined : List (List ℕ) → List ℕ → List ℕ
-joined [] last = last
-joined (a ∷ l) last = a ++ joined l last
-
--- what is said of them, from a place on
-unfoldable pub partsText : ℕ → Progress → List (List ℕ) → List ℕ → List ℕ
-partsText place p [] last =
-    linesOf (length last / 24) place p last ++ lastText (place + length last / 24) (after (length last / 24) p last .accepted) (length last % 24)
-partsText place p (a ∷ l) last = linesOf (length a / 24) place p a ++ partsText (place + length a / 24) (after (length a / 24) p a) l last
-
--- each part but the last has whole steps
-abbrev pub Whole : List (List ℕ) → Type 0
-Whole [] = Unit {0}
-Whole (a ∷ l) = (length a % 24 ≡ 0) × Whole l

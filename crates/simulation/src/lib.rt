@@ -1,9 +1,9 @@
-// All that the run program says, by its input (specs/Simulated.antt): at its start, for a part of its steps, at its end.
+// What the run program says, by its input (specs/Simulated.antt): at its start, for a part of its steps, at its end.
 use steps::Answer;
 use text::put;
 ghost use mathlib.Core.Path.{_≡_};
 ghost use mathlib.Core.Bool.{true};
-ghost use Prim.Native.Nat.{_+_, _*_, _/_, _≤_, _<_, _^_};
+ghost use Prim.Native.Nat.{_+_, _*_, _/_, _%_, _≤_, _<_, _^_};
 ghost use lib.ListN.{length, drop};
 ghost use Rattle.io.specs.Counts.{Counts};
 ghost use Rattle.word.specs.Word.{if_then_else_, flag};
@@ -15,12 +15,15 @@ ghost use Rattle.machine.specs.Step.{isAccepted, step};
 ghost use Rattle.simulation.specs.Simulated as simulated;
 
 // A step is six words of four bytes.
-pub const STEP_BYTES: usize = 24;
+const STEP_BYTES: usize = 24;
 
-// How much of the text there is, and how many steps were accepted so far.
+// How much of the text there is, how many steps there were, how many were accepted so far, and how many bytes are left
+// that are no whole step.
 pub struct Taken {
     pub written: usize,
+    pub steps: u64,
     pub accepted: u64,
+    pub left: usize,
 }
 
 // How many bytes of memory the first two bytes ask for; 0 where they are out of range or missing.
@@ -62,8 +65,8 @@ pub fn put_first(out: &mut [u8], input: &[u8]) -> usize
 
 // Makes the machine that the front of the input asks for.
 pub fn start(input: &[u8], t: &mut [u32])
-    requires { ⌜ (simulated.isStarted (now input) ≡ true) × (length (now t) ≡ tableWords (simulated.coresIn (now input))) ⌝ }
-    ensures { λ _. ⌜ now (t .exit) ≡ made (simulated.coresIn (now (input .entry))) (simulated.pagesIn (now (input .entry))) ⌝ }
+    requires { ⌜ (simulated.isStarted (now input) ≡ true) × (length (now t) ≡ tableWords (simulated.coresByte (now input))) ⌝ }
+    ensures { λ _. ⌜ now (t .exit) ≡ made (simulated.coresByte (now (input .entry))) (simulated.pagesByte (now (input .entry))) ⌝ }
 {
     let cores = word::wide(input[0]);
     let end = 2 + memory_bytes(input);
@@ -81,7 +84,7 @@ fn accepted(a: Answer) -> u64
     }
 }
 
-// One step, whose bytes start at a place.
+// The step whose words begin at a byte.
 fn take(t: &mut [u32], m: &mut [u8], input: &[u8], at: usize) -> Answer
     requires { ⌜ at + 24 ≤ length (now input) ⌝ }
     ensures { λ r. ⌜ r ≡ step (now (t .entry)) (now (m .entry)) (wordsIn 6 (drop at (now (input .entry)))) .answer ⌝ }
@@ -93,8 +96,8 @@ fn take(t: &mut [u32], m: &mut [u8], input: &[u8], at: usize) -> Answer
     machine::step(t, m, &s)
 }
 
-// All whole steps of a part of the input, at most 1,024; a line for each. The first has a place, and some were accepted
-// before it.
+// All whole steps of a part of the input, at most 1,024; a line for each. `place` is the number of the first, and so many
+// were accepted earlier.
 pub fn take_steps(
     t: &mut [u32],
     m: &mut [u8],
@@ -104,9 +107,9 @@ pub fn take_steps(
     out: &mut [u8],
 ) -> Taken
     requires { ⌜ (length (now input) ≤ 24 * 1024) × (length (now out) ≡ 64 * 1024) × (place < 2 ^ 63) × (earlier ≤ place) ⌝ }
-    ensures { λ r. ⌜ Put (now (out .entry)) 0 (simulated.linesOf (length (now (input .entry)) / 24) place (simulated.from (now (t .entry)) (now (m .entry)) earlier) (now (input .entry))) (r .written) (now (out .exit)) × Counts (r .written) (now (out .exit)) ⌝ }
-    ensures { λ r. ⌜ simulated.from (now (t .exit)) (now (m .exit)) (r .accepted) ≡ simulated.after (length (now (input .entry)) / 24) (simulated.from (now (t .entry)) (now (m .entry)) earlier) (now (input .entry)) ⌝ }
-    ensures { λ r. ⌜ r .accepted ≤ place + length (now (input .entry)) / 24 ⌝ }
+    ensures { λ r. ⌜ Put (now (out .entry)) 0 (simulated.stepLines (length (now (input .entry)) / 24) place (simulated.from (now (t .entry)) (now (m .entry)) earlier) (now (input .entry))) (r .written) (now (out .exit)) × Counts (r .written) (now (out .exit)) ⌝ }
+    ensures { λ r. ⌜ simulated.from (now (t .exit)) (now (m .exit)) (r .accepted) ≡ simulated.afterSteps (length (now (input .entry)) / 24) (simulated.from (now (t .entry)) (now (m .entry)) earlier) (now (input .entry)) ⌝ }
+    ensures { λ r. ⌜ (r .steps ≡ length (now (input .entry)) / 24) × (r .left ≡ length (now (input .entry)) % 24) × (r .accepted ≤ place + r .steps) ⌝ }
 {
     let n = input.len() / STEP_BYTES;
     let mut i: usize = 0;
@@ -120,7 +123,9 @@ pub fn take_steps(
     }
     Taken {
         written,
+        steps: n as u64,
         accepted: taken,
+        left: input.len() % STEP_BYTES,
     }
 }
 

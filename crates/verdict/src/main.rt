@@ -90,7 +90,10 @@ fn judge_in(out: &mut [u8], a: &[u8], input: &mut [u8], pages: u32) -> usize
 {
     let n = read_input(input);
     let full = n == input.len();
-    if full & (pages < word::read_word(input, 4)) {
+    let cores = word::read_word(input, 0);
+    let asked = word::read_word(input, 4);
+    let good = (1 <= cores) & (cores <= 4) & (asked <= 4096);
+    if full & good & (pages < asked) {
         return text::put(
             out,
             0,

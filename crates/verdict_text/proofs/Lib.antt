@@ -1,3 +1,4 @@
 pub mod Named
 pub mod Said
+pub mod Asking
 pub mod Shown

@@ -3,7 +3,7 @@
 use mathlib.Core.Path.{_≡_, refl, sym, ap, _∙_, subst}
 use mathlib.Core.Bool.{Bool, true, false, _&&_}
 use mathlib.Core.List.{List, [], _∷_, _++_, append-nil}
-use mathlib.Core.Logic.{_≢_}
+use mathlib.Core.Logic.{_≢_, ⊎-elim}
 use Prim.Native.Nat.{ℕ, zero, suc, _+_, _-_, _≤_, _<_}
 use native.Mathlib.Decide.{ℕ-discrete}
 use native.Mathlib.Numerals.{add-one}
@@ -13,15 +13,15 @@ use lib.ListN.{length, getD, take, drop, length-drop, drop-of-length-le}
 use lib.Seq.{drop-cons, drop-drop, take-suc, getD-drop, append-snoc}
 use borrow.Author.Tests.{eq-eqb, ne-eqb, le-leb, lt-leb}
 use Rattle.word.specs.Word.{if_then_else_, withBit}
+use Rattle.word.proofs.Laws.{side}
 use Rattle.records.proofs.Counts.{either}
-use Rattle.verdict_text.specs.Arguments.{before, argumentsIn, namedCore}
-use Rattle.verdict_text.specs.Judged.{noCore, answered}
-use Rattle.verdict_text.specs.inner.First.{first, after}
+use Rattle.verdict_text.specs.Arguments.{before, argumentsIn, namedCore, NoCore, askedFrom}
+use Rattle.verdict_text.specs.inner.First.{first, afterFirst}
 
 -- ---- the first argument and the others
 
-pub first-argument : (x : ℕ) (b : List ℕ) → argumentsIn (x ∷ b) ≡ first (x ∷ b) ∷ argumentsIn (after (x ∷ b))
-unfolding argumentsIn first after
+pub first-argument : (x : ℕ) (b : List ℕ) → argumentsIn (x ∷ b) ≡ first (x ∷ b) ∷ argumentsIn (afterFirst (x ∷ b))
+unfolding argumentsIn first afterFirst
 first-argument x [] = either (ℕ-discrete x 0) (λ e. rw (eq-eqb x 0 e) refl) (λ e. rw (ne-eqb x 0 e) refl)
 first-argument x (y ∷ b) = either (ℕ-discrete x 0) (λ e. rw (eq-eqb x 0 e) refl) (λ e. rw (ne-eqb x 0 e) (ap (before x) (first-argument y b)))
 
@@ -47,12 +47,19 @@ no-length : (s : List ℕ) → length s ≢ 1 → namedCore s ≡ 4
 unfolding namedCore
 no-length s e = rw (ne-eqb (length s) 1 e) refl
 
-digit : (x : ℕ) → 48 ≤ x → x ≤ 51 → namedCore (x ∷ []) ≡ x - 48
+pub digit : (x : ℕ) → 48 ≤ x → x ≤ 51 → namedCore (x ∷ []) ≡ x - 48
 unfolding namedCore
 digit x h k = rw (le-leb 48 x h, le-leb x 51 k) refl
 
-one-byte : (s : List ℕ) → namedCore s < 4 → length s ≡ 1
+pub one-byte : (s : List ℕ) → namedCore s < 4 → length s ≡ 1
 one-byte s h = either (ℕ-discrete (length s) 1) (λ e. e) (λ e. absurd (omega (arith, no-length s e)))
+
+-- no other byte does
+pub digit-only : (x : ℕ) → namedCore (x ∷ []) < 4 → (48 ≤ x) × (x ≤ 51)
+digit-only x h =
+    ⊎-elim (λ (l : x < 48). absurd (omega (arith, no-digit (x ∷ []) (rw (lt-leb 48 x l) refl))))
+    (λ (l : 48 ≤ x). ⊎-elim (λ (m : 51 < x). absurd (omega (arith, no-digit (x ∷ []) (rw (le-leb 48 x l, lt-leb x 51 m) refl)))) (λ (m : x ≤ 51). (l, m)) (side 51 x))
+    (side x 48)
 
 low : (x : ℕ) (b : List ℕ) → x < 48 → namedCore (first (x ∷ b)) ≡ 4
 low x b h = either (ℕ-discrete x 0) (λ e. rw (first-zero x b e) (no-length [] (λ u. absurd (omega arith)))) (λ e. rw (first-more x b e) (no-digit (x ∷ first b) (rw (lt-leb 48 x h) refl)))
@@ -66,8 +73,8 @@ long x y b h k = rw (first-more x (y ∷ b) h, first-more y b k) (no-length (x �
 alone : (x : ℕ) (b : List ℕ) → 48 ≤ x → x ≤ 51 → first b ≡ [] → namedCore (first (x ∷ b)) ≡ x - 48
 alone x b h k e = rw (first-more x b (λ u. absurd (omega arith)), e) (digit x h k)
 
-after-one : (s : List ℕ) → length (first s) ≡ 1 → after s ≡ drop 2 s
-unfolding first after
+after-one : (s : List ℕ) → length (first s) ≡ 1 → afterFirst s ≡ drop 2 s
+unfolding first afterFirst
 after-one [] e = absurd (omega arith)
 after-one (x ∷ []) e = either (ℕ-discrete x 0) (λ u. rw (eq-eqb x 0 u) refl) (λ u. rw (ne-eqb x 0 u) refl)
 after-one (x ∷ y ∷ b) e =
@@ -108,20 +115,22 @@ module _ (a : List ℕ) (at : ℕ) (h : at < length a) where
   core-last k m l = rw here (alone byte (drop (suc at) a) k m (ap first (drop-of-length-le a {i = suc at} (omega arith)) ∙ first-nil))
 
   -- what is said from this argument on
-  from-here : argumentsIn (drop at a) ≡ first (drop at a) ∷ argumentsIn (after (drop at a))
+  from-here : argumentsIn (drop at a) ≡ first (drop at a) ∷ argumentsIn (afterFirst (drop at a))
   from-here = rw here (first-argument byte (drop (suc at) a))
 
-  module _ (g : ℕ) (input : List ℕ) where
-    pub wrong-argument : namedCore (first (drop at a)) ≡ 4 → answered g (argumentsIn (drop at a)) input ≡ noCore (first (drop at a))
-    unfolding answered
-    wrong-argument e = ap (λ (l : List (List ℕ)). answered g l input) from-here ∙ rw (eq-eqb (namedCore (first (drop at a))) 4 e) refl
+  module _ (g : ℕ) where
+    pub wrong-argument : namedCore (first (drop at a)) ≡ 4 → askedFrom g (argumentsIn (drop at a)) ≡ NoCore (first (drop at a))
+    unfolding askedFrom
+    wrong-argument e = ap (askedFrom g) from-here ∙ rw (eq-eqb (namedCore (first (drop at a))) 4 e) refl
 
-    pub next-argument : (k : ℕ) → k ≡ namedCore (first (drop at a)) → k < 4 → answered g (argumentsIn (drop at a)) input ≡ answered (withBit g k 1) (argumentsIn (drop (at + 2) a)) input
-    unfolding answered
+    pub next-argument :
+        (k : ℕ) → k ≡ namedCore (first (drop at a)) → k < 4 → askedFrom g (argumentsIn (drop at a)) ≡ askedFrom (withBit g k 1) (argumentsIn (drop (at + 2) a))
+    unfolding askedFrom
     next-argument k e l =
-        let o : after (drop at a) ≡ drop (at + 2) a = after-one (drop at a) (one-byte (first (drop at a)) (omega arith)) ∙ drop-drop 2 at a in
-        ap (λ (x : List (List ℕ)). answered g x input) from-here
-        ∙ rw (ne-eqb (namedCore (first (drop at a))) 4 (λ u. absurd (omega arith))) (ap (λ (n : ℕ). answered (withBit g n 1) (argumentsIn (after (drop at a))) input) (sym e) ∙ ap (λ (x : List ℕ). answered (withBit g k 1) (argumentsIn x) input) o)
+        let o : afterFirst (drop at a) ≡ drop (at + 2) a = after-one (drop at a) (one-byte (first (drop at a)) (omega arith)) ∙ drop-drop 2 at a in
+        ap (askedFrom g) from-here
+        ∙ rw (ne-eqb (namedCore (first (drop at a))) 4 (λ u. absurd (omega arith)))
+        (ap (λ (n : ℕ). askedFrom (withBit g n 1) (argumentsIn (afterFirst (drop at a)))) (sym e) ∙ ap (λ (x : List ℕ). askedFrom (withBit g k 1) (argumentsIn x)) o)
 
 -- ---- how long it is
 

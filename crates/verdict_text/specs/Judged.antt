@@ -1,26 +1,26 @@
--- All that the program `verdict` says: a text by its arguments and its input, errors included.
+-- All that the program `verdict` says, but for two lines about its stack: a text by its arguments and its input.
 -- Assumes nothing.
-use mathlib.Core.Bool.{not}
-use mathlib.Core.List.{List, [], _∷_}
+use mathlib.Core.Bool.{Bool, false, not, _&&_}
+use mathlib.Core.List.{List}
 use Prim.Native.Nat.{ℕ, _+_, _*_}
 use lib.Dec.{eqb, ltb}
 use lib.ListN.{length, take, drop}
-use Rattle.word.specs.Word.{if_then_else_, withBit}
+use Rattle.word.specs.Word.{if_then_else_}
 use Rattle.word.specs.Bytes.{bytesAt, wordsIn}
 use Rattle.layout.specs.Layout.{tableWords, pageBytes, mostCores, mostPages}
 use Rattle.tables.specs.Sound.{upTo}
 use Rattle.judgement.specs.Report.{reportText}
-use Rattle.verdict_text.specs.Arguments.{argumentsIn, namedCore}
+use Rattle.verdict_text.specs.Arguments.{argumentsIn, Asked, Cores, NoCore, askedFrom}
 use Rattle.verdict_text.specs.Wrong as wrong
 
 -- ---- the input: the table words of a machine, low byte first, and then its memory
 
 -- words 0 and 1, the numbers of cores and of pages
-abbrev pub coresIn : List ℕ → ℕ
-coresIn input = bytesAt 4 input 0
+abbrev pub inputCores : List ℕ → ℕ
+inputCores input = bytesAt 4 input 0
 
-abbrev pub pagesIn : List ℕ → ℕ
-pagesIn input = bytesAt 4 input 4
+abbrev pub inputPages : List ℕ → ℕ
+inputPages input = bytesAt 4 input 4
 
 -- how many bytes a machine has
 abbrev pub machineBytes : ℕ → ℕ → ℕ
@@ -37,21 +37,33 @@ ofMachine g input cores pages =
 unfoldable pub ofInput : ℕ → List ℕ → List ℕ
 ofInput g input =
     if ltb (length input) 8 then wrong.cutHeadText (length input)
-    else if not (upTo mostCores (coresIn input)) then wrong.badCoresText (coresIn input)
-    else if not (upTo mostPages (pagesIn input)) then wrong.badPagesText (pagesIn input)
-    else ofMachine g input (coresIn input) (pagesIn input)
+    else if not (upTo mostCores (inputCores input)) then wrong.badCoresText (inputCores input)
+    else if not (upTo mostPages (inputPages input)) then wrong.badPagesText (inputPages input)
+    else ofMachine g input (inputCores input) (inputPages input)
 
 -- ---- the arguments: the cores of the group
+
+-- with a zero byte after each
+abbrev pub mostArguments : ℕ
+mostArguments = 4096
 
 -- what is said of an argument that names no core; of a long one 16 bytes are shown
 abbrev pub noCore : List ℕ → List ℕ
 noCore s = wrong.noCoreText (take 16 s) (ltb 16 (length s))
 
--- what is said where the arguments so far name the cores of g
-unfoldable pub answered : ℕ → List (List ℕ) → List ℕ → List ℕ
-answered g [] input = if eqb g 0 then wrong.noGroupText else ofInput g input
-answered g (s ∷ l) input =
-    if eqb (namedCore s) 4 then noCore s else answered (withBit g (namedCore s) 1) l input
+unfoldable pub answered : Asked → List ℕ → List ℕ
+answered (NoCore s) input = noCore s
+answered (Cores g) input = if eqb g 0 then wrong.noGroupText else ofInput g input
 
 unfoldable pub judged : List ℕ → List ℕ → List ℕ
-judged arguments input = if ltb 4096 (length arguments) then wrong.longArgumentsText else answered 0 (argumentsIn arguments) input
+judged arguments input =
+    if ltb mostArguments (length arguments) then wrong.longArgumentsText else answered (askedFrom 0 (argumentsIn arguments)) input
+
+-- ---- whether the input counts: the law `unasked` of proofs/Said says that it does not elsewhere
+
+abbrev pub namesGroup : Asked → Bool
+namesGroup (NoCore s) = false
+namesGroup (Cores g) = not (eqb g 0)
+
+unfoldable pub asksInput : List ℕ → Bool
+asksInput arguments = not (ltb mostArguments (length arguments)) && namesGroup (askedFrom 0 (argumentsIn arguments))

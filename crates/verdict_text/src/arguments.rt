@@ -1,14 +1,12 @@
-// One of the arguments in bytes, each of which ends in a zero byte (specs/Arguments.antt).
+// The arguments in bytes, each of which ends in a zero byte (specs/Arguments.antt).
 ghost use mathlib.Core.Path.{_≡_};
-ghost use mathlib.Core.List.{List};
-ghost use Prim.Native.Nat.{ℕ, _+_, _≤_, _<_};
+ghost use Prim.Native.Nat.{_+_, _≤_, _<_};
 ghost use lib.ListN.{length, take, drop};
-ghost use Rattle.verdict_text.specs.Arguments.{argumentsIn, namedCore};
-ghost use Rattle.verdict_text.specs.Judged.{answered};
+ghost use Rattle.verdict_text.specs.Arguments.{argumentsIn, namedCore, askedFrom};
 ghost use Rattle.verdict_text.specs.inner.First.{first};
 
 // The group that the arguments name, up to the first that names no core; and the place of that one, or the end.
-pub struct Asked {
+pub struct Request {
     pub group: u32,
     pub at: usize,
 }
@@ -51,9 +49,9 @@ pub fn length_at(a: &[u8], at: usize) -> usize
     end - at
 }
 
-pub fn ask(a: &[u8]) -> Asked
+pub fn ask(a: &[u8]) -> Request
     requires { ⌜ length (now a) ≤ 4096 ⌝ }
-    ensures { λ r. ⌜ ((input : List ℕ) → answered 0 (argumentsIn (now (a .entry))) input ≡ answered (r .group) (argumentsIn (drop (r .at) (now (a .entry)))) input) ⌝ }
+    ensures { λ r. ⌜ askedFrom 0 (argumentsIn (now (a .entry))) ≡ askedFrom (r .group) (argumentsIn (drop (r .at) (now (a .entry)))) ⌝ }
     ensures { λ r. ⌜ (r .at < length (now (a .entry)) → namedCore (first (drop (r .at) (now (a .entry)))) ≡ 4) ⌝ }
 {
     let mut group: u32 = 0;
@@ -61,10 +59,10 @@ pub fn ask(a: &[u8]) -> Asked
     while at < a.len() {
         let k = core_at(a, at);
         if 3 < k {
-            return Asked { group, at };
+            return Request { group, at };
         }
         group = word::put_bit(group, k, 1);
         at += 2;
     }
-    Asked { group, at }
+    Request { group, at }
 }

@@ -1,13 +1,11 @@
-// All that the program `verdict` says, by its arguments and its input (specs/Judged.antt).
+// What the program `verdict` says, by its arguments and its input (specs/Judged.antt).
 mod arguments;
 mod wrong;
 
 use layout::BLOCK_WORDS;
 use layout::HEADER_WORDS;
 ghost use mathlib.Core.Path.{_≡_};
-ghost use mathlib.Core.Bool.{false};
-ghost use mathlib.Core.List.{List, []};
-ghost use Prim.Native.Nat.{ℕ, _+_, _*_, _≤_};
+ghost use Prim.Native.Nat.{_+_, _*_, _≤_};
 ghost use lib.ListN.{length, drop};
 ghost use Rattle.text.specs.Text.{Put};
 ghost use Rattle.word.specs.Bytes.{wordsIn};
@@ -19,12 +17,12 @@ ghost use Rattle.verdict_text.specs.inner.First.{first};
 pub const TEXT: usize = 12288;
 
 // The most that arguments may take, with a zero byte after each.
-pub const MOST_ARGUMENTS: usize = 4096;
+const MOST_ARGUMENTS: usize = 4096;
 
 // The most that the tables of four cores take.
 const TABLE_WORDS: usize = 1056;
 
-// The report, with room for the tables: words, and then memory.
+// The report on the input: as many words as are lent for the tables, and then memory.
 fn put_report(out: &mut [u8], input: &[u8], group: u32, t: &mut [u32]) -> usize
     requires { ⌜ (12288 ≤ length (now out)) × (4 * length (now t) ≤ length (now input)) ⌝ }
     ensures { λ r. ⌜ Put (now (out .entry)) 0 (reportText group (wordsIn (length (now (t .entry))) (now (input .entry))) (drop (4 * length (now (t .entry))) (now (input .entry)))) r (now (out .exit)) × (r ≤ 12288) ⌝ }
@@ -90,28 +88,28 @@ pub fn judge(a: &[u8], input: &[u8], out: &mut [u8]) -> usize
     if MOST_ARGUMENTS < a.len() {
         return wrong::put_long_arguments(out);
     }
-    let asked = arguments::ask(a);
-    let at = asked.at;
+    let request = arguments::ask(a);
+    let at = request.at;
     if at < a.len() {
         return put_no_core(out, a, at);
     }
-    let group = asked.group;
+    let group = request.group;
     if group == 0 {
         return wrong::put_no_group(out);
     }
     put_input(out, input, group)
 }
 
-// Whether the input has to be read: without it, the same is said of any.
+// Whether the input counts: where not, the same is said whatever it is.
 pub fn asks_input(a: &[u8]) -> bool
-    ensures { λ r. ⌜ ((input : List ℕ) → r ≡ false → judged.judged (now (a .entry)) input ≡ judged.judged (now (a .entry)) []) ⌝ }
+    ensures { λ r. ⌜ r ≡ judged.asksInput (now (a .entry)) ⌝ }
 {
     if MOST_ARGUMENTS < a.len() {
         return false;
     }
-    let asked = arguments::ask(a);
-    let at = asked.at;
-    let group = asked.group;
+    let request = arguments::ask(a);
+    let at = request.at;
+    let group = request.group;
     if at < a.len() {
         return false;
     }

@@ -5,15 +5,15 @@ use lib.ListN.{length}
 use borrow.Author.Needs.{needs}
 use Rattle.text.specs.Text.{Put}
 use Rattle.text.proofs.Texts.{counts}
-use Rattle.simulation.specs.Simulated.{from, after, linesOf}
+use Rattle.simulation.specs.Simulated.{from, afterSteps, stepLines}
 use Rattle.simulation.proofs.Taking.{no-lines, none-after, lines-next, after-next, flag-few, lines-all, after-all}
 use Rattle.simulation.proofs.take_steps.Statement.{statement}
 use Rattle.simulation.proofs.take_steps.Tie as tie
 
 abbrev Inv-loop : tie.InvT-loop
 Inv-loop t₀ m₀ input place earlier out₀ n i₀ written₀ taken₀ t m out i written taken =
-    (length t ≡ length t₀) × (length m ≡ length m₀) × (i ≤ n) × (written ≤ 52 * i) × (taken ≤ place + i) × Put out₀ 0 (linesOf i place (from t₀ m₀ earlier) input) written out
-    × (from t m taken ≡ after i (from t₀ m₀ earlier) input)
+    (length t ≡ length t₀) × (length m ≡ length m₀) × (i ≤ n) × (written ≤ 52 * i) × (taken ≤ place + i) × Put out₀ 0 (stepLines i place (from t₀ m₀ earlier) input) written out
+    × (from t m taken ≡ afterSteps i (from t₀ m₀ earlier) input)
 
 abbrev μ-loop : tie.MeasureT-loop
 μ-loop t₀ m₀ input place earlier out₀ n i₀ written₀ taken₀ t m out i written taken = n - i
@@ -68,7 +68,7 @@ same-length-3 c = c .before .loop .inv .5 .kept
 returns : tie.Need-returns Inv-loop μ-loop
 returns c = (
   (lines-all _ _ (c .before .loop .inv .2) (c .loop-test .left) _ _ _ (c .before .loop .inv .5), counts _ _ (omega (arith, c .before .loop .inv .3, c .before .loop .inv .2, c .before .loop .inv .5 .kept, c .before .before .before .before .before .before .pre .0, c .before .before .before .before .before .before .pre .1))),
-  (after-all _ _ (c .before .loop .inv .2) (c .loop-test .left) _ _ (c .before .loop .inv .6), omega (arith, c .before .loop .inv .4, c .before .loop .inv .2)),
+  (after-all _ _ (c .before .loop .inv .2) (c .loop-test .left) _ _ (c .before .loop .inv .6), (refl, refl, omega (arith, c .before .loop .inv .4, c .before .loop .inv .2))),
 )
 
 pub take-steps-spec : {M : Type 1} → statement M

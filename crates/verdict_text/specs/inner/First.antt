@@ -10,6 +10,6 @@ unfoldable pub first : List ℕ → List ℕ
 first [] = []
 first (x ∷ b) = if eqb x 0 then [] else x ∷ first b
 
-unfoldable pub after : List ℕ → List ℕ
-after [] = []
-after (x ∷ b) = if eqb x 0 then b else after b
+unfoldable pub afterFirst : List ℕ → List ℕ
+afterFirst [] = []
+afterFirst (x ∷ b) = if eqb x 0 then b else afterFirst b

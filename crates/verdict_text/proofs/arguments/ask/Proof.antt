@@ -1,25 +1,23 @@
--- `verdict_text::arguments::ask` meets its contract: argument by argument, what is to be said stays the same.
+-- `verdict_text::arguments::ask` meets its contract: argument by argument, what is asked stays the same.
 -- Assumes nothing.
 use native.Mathlib.Omega.{arith}
 use mathlib.Core.Path.{_≡_, refl, sym, ap, _∙_}
-use mathlib.Core.List.{List}
 use Prim.Native.Nat.{ℕ, _+_, _-_}
 use lib.ListN.{length, drop}
 use borrow.Author.Needs.{needs}
-use Rattle.verdict_text.specs.Arguments.{argumentsIn}
-use Rattle.verdict_text.specs.Judged.{answered}
+use Rattle.verdict_text.specs.Arguments.{argumentsIn, askedFrom}
 use Rattle.verdict_text.proofs.Named.{next-argument}
 use Rattle.verdict_text.proofs.arguments.ask.Statement.{statement}
 use Rattle.verdict_text.proofs.arguments.ask.Tie as tie
 
 abbrev Inv-loop : tie.InvT-loop
-Inv-loop a group₀ at₀ group at = (input : List ℕ) → answered 0 (argumentsIn a) input ≡ answered group (argumentsIn (drop at a)) input
+Inv-loop a group₀ at₀ group at = askedFrom 0 (argumentsIn a) ≡ askedFrom group (argumentsIn (drop at a))
 
 abbrev μ-loop : tie.MeasureT-loop
 μ-loop a group₀ at₀ group at = length a - at
 
 loop-holds : tie.Need-loop-holds Inv-loop μ-loop
-loop-holds c = λ input. refl
+loop-holds c = refl
 
 core-at-requires : tie.Need-core-at-requires Inv-loop μ-loop
 core-at-requires c κs = search needs
@@ -37,7 +35,7 @@ loop-less : tie.Need-loop-less Inv-loop μ-loop
 loop-less c = search needs
 
 loop-again : tie.Need-loop-again Inv-loop μ-loop
-loop-again c = λ input. c .before .before .before .before .loop .inv input ∙ next-argument (c .before .before .before .before .before .before .args .a .now) (c .before .before .before .before .loop .at) (c .before .before .before .loop-test .taken) (c .before .before .before .before .loop .group) input _ (c .before .before .core-at .ensures .0) (omega arith) ∙ ap (λ (g : ℕ). answered g (argumentsIn (drop (c .before .before .before .before .loop .at + 2) (c .before .before .before .before .before .before .args .a .now))) input) (sym (c .put-bit .ensures))
+loop-again c = c .before .before .before .before .loop .inv ∙ next-argument _ _ (c .before .before .before .loop-test .taken) _ _ (c .before .before .core-at .ensures .0) (omega arith) ∙ ap (λ (g : ℕ). askedFrom g (argumentsIn (drop (c .before .before .before .before .loop .at + 2) (c .before .before .before .before .before .before .args .a .now)))) (sym (c .put-bit .ensures))
 
 returns-2 : tie.Need-returns-2 Inv-loop μ-loop
 returns-2 c = (c .before .loop .inv, λ h. absurd (omega (arith, h, c .loop-test .left)))
