@@ -2,11 +2,11 @@
 """Throws good and bad inputs at the program verdict. Whatever comes, it writes to standard output alone and ends by
 itself, and what it writes is compared byte for byte: one line that says what is wrong, or the whole report that the
 answers of the library for that group come to (tests/judged.c). All groups of each bundled map are asked, and maps of
-all sizes on stacks of all sizes. Python, standard library only.
+four sizes on stacks of twelve. Python, standard library only.
 
     python3 tests/verdict.py target/bin/verdict JUDGED examples/maps [HOW_MANY]
 """
-import os, random, resource, struct, subprocess, sys
+import os, random, re, resource, struct, subprocess, sys
 
 MARKS = 64
 LEGEND = """\
@@ -197,17 +197,28 @@ def as_it_is(r, b):
     return b
 
 
-def enlarged(b, pages):
-    """The same machine with more memory."""
-    start = 128 + 1024 * struct.unpack_from("<I", b)[0]
-    return b[:4] + struct.pack("<I", pages) + b[8:start] + b[start:].ljust(4096 * pages, b"\0")
+def moved(maps, name, pages):
+    """A bundled map in a memory of so many pages: all that it names stands in the last 64 of them."""
+    with open("%s/%s.map" % (maps, name)) as source:
+        text = source.read()
+    away = pages - int(re.search(r"^pages (\d+)$", text, re.M)[1])
+
+    def further(number):
+        return str(int(number[0]) + away)
+
+    text = re.sub(r"^pages (\d+)$", "pages %d" % pages, text, flags=re.M)
+    text = re.sub(r"(?<=origin )\d+|(?<=-> )\d+", further, text)
+    text = re.sub(r"(?<=tables )\d+( \d+)*", lambda tables: re.sub(r"\d+", further, tables[0]), text)
+    made = subprocess.run([sys.executable, "%s/../map.py" % maps, "/dev/stdin"], input=text.encode(), stdout=subprocess.PIPE, check=True)
+    return made.stdout
 
 
 def asked(program, arguments, data, kilobytes, environment=None):
-    """What the program writes on a stack of so many KB, or why it did not end as it has to."""
+    """What the program writes on a stack of so many KB, or without a limit, or why it did not end as it has to."""
 
     def limited():
-        resource.setrlimit(resource.RLIMIT_STACK, (kilobytes * 1024, resource.getrlimit(resource.RLIMIT_STACK)[1]))
+        most = resource.getrlimit(resource.RLIMIT_STACK)[1]
+        resource.setrlimit(resource.RLIMIT_STACK, (most if kilobytes is None else kilobytes * 1024, most))
 
     got = subprocess.run([program] + arguments, input=data, capture_output=True, env=environment, preexec_fn=limited, timeout=60)
     if got.returncode != 0:
@@ -215,41 +226,49 @@ def asked(program, arguments, data, kilobytes, environment=None):
     return "bytes on standard error" if got.stderr else got.stdout.decode("ascii", "replace")
 
 
-def sizes(program, judged, map_):
-    """Maps of all sizes on stacks of all sizes, also with as much around the program as the system allows: the report,
-    or a line that says what to type. An input that is too long is known on any stack that has room for its machine."""
+def with_words(data, cores, pages):
+    return struct.pack("<2I", cores, pages) + data[8:]
+
+
+def sizes(program, judged, maps):
+    """Maps of four sizes on stacks of twelve, also with nearly as much around the program as the system allows: the
+    report, or a line that says what to type. What else is wrong is said on any stack that has room for it."""
     small, large = "the stack is too small: type 'ulimit -s 8192' first\n", "a map of more than 1024 pages needs a larger stack: type 'ulimit -s 32768' first\n"
     full = {"X%d" % i: "x" * 131000 for i in range(64)}
     failed = 0
     for pages in (64, 1024, 1025, 4096):
-        data = enlarged(map_, pages)
-        for kilobytes in (64, 512, 4096, 6143, 6144, 8192, 16384, 24575, 24576, 32768, 65536):
-            needs = small if kilobytes < 6144 else large if kilobytes < 24576 and pages > 1024 else None
-            room = min(kilobytes // 4, 6144) * 1024 - 20000
+        data = moved(maps, "competitor", pages)
+        for kilobytes in (64, 512, 4096, 6143, 6144, 8192, 16384, 24575, 24576, 32768, 65536, None):
+            size = kilobytes or 1 << 40
+            needs = small if size < 6144 else large if size < 24576 and pages > 1024 else None
+            room = min(size // 4, 6144) * 1024 - 20000
             around = dict(list(full.items())[: max(0, room // 131100)])
-            for environment, more in ((None, b""), (around, b""), (None, b"\0"), (None, bytes(5000000))):
-                said = needs or expected(judged, ["0"], data + more)
-                got = asked(program, ["0"], data + more, kilobytes, environment)
+            bad = [with_words(data, 5, pages), with_words(data, 4, 5000), with_words(data, 0, 4097) + bytes(5000000)]
+            questions = [(data, None), (data, around), (data + b"\0", None), (data + bytes(5000000), None)]
+            for given, environment in questions + [(given, None) for given in bad]:
+                said = (small if size < 6144 else None) if given in bad else needs
+                said = said or expected(judged, ["2"], given)
+                got = asked(program, ["2"], given, kilobytes, environment)
                 if got != said:
                     failed += 1
-                    print("verdict: %d pages and %d bytes, a stack of %d KB: %r" % (pages, len(more), kilobytes, got[-200:]))
+                    print("verdict: %d pages, %d bytes, a stack of %s KB: %r in place of %r" % (pages, len(given), kilobytes, got[-200:], said[-200:]))
     return failed
 
 
 def unread(program, judged):
-    """Wrong arguments are answered though no input comes and none ends."""
+    """Wrong arguments are answered while standard input stays open and nothing comes."""
     failed = 0
     for group in BAD_GROUPS:
-        with subprocess.Popen([program] + group, stdin=subprocess.PIPE, stdout=subprocess.PIPE) as asking:
+        with subprocess.Popen([program] + group, stdin=subprocess.PIPE, stdout=subprocess.PIPE, stderr=subprocess.PIPE) as asking:
             try:
-                asking.wait(timeout=20)
-                got = asking.stdout.read().decode()
+                status = asking.wait(timeout=20)
             except subprocess.TimeoutExpired:
                 asking.kill()
-                got = "nothing in 20 seconds"
-        if got != expected(judged, group, b""):
+                status = "none in 20 seconds"
+            got = asking.stdout.read().decode("ascii", "replace"), asking.stderr.read(), status
+        if got != (expected(judged, group, b""), b"", 0):
             failed += 1
-            print("verdict: %r and no input: %r" % ([g[:20] for g in group[:3]], got[:300]))
+            print("verdict: %r and no input: %r" % ([g[:20] for g in group[:3]], got))
     return failed
 
 
@@ -275,7 +294,7 @@ def main():
     count = int(sys.argv[4]) if len(sys.argv) > 4 else 3000
     good = [open("%s/%s.bin" % (maps, name), "rb").read() for name in ("feeder", "competitor", "own_table")]
     r = random.Random(20261116)
-    failed, number, reports, apart, stopped = unread(program, judged) + sizes(program, judged, good[0]), 0, 0, 0, 0
+    failed, number, reports, apart, stopped = unread(program, judged) + sizes(program, judged, maps), 0, 0, 0, 0
     for damage, data, group in questions(r, good, count):
         said = expected(judged, group, data)
         got = asked(program, group, data, 8192)

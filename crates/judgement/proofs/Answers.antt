@@ -24,7 +24,7 @@ use Rattle.reasons.proofs.None.{no-reason}
 use Rattle.reasons.proofs.Telling.{judged}
 use Rattle.reason_lines.specs.Reasons.{wayOf, reasonText, reasonLines}
 use Rattle.judgement.specs.Report.{refusedText}
-use Rattle.judgement.specs.Report.{shownSides, sidesText, endText, saidOf, reportText}
+use Rattle.judgement.specs.Report.{shownSides, sidesText, closingText, saidOf, reportText}
 use Rattle.judgement.specs.inner.Lines.{LinesLeft}
 
 -- ---- reasons, line by line
@@ -105,13 +105,13 @@ module _ (g : ℕ) (t m : List ℕ) where
   said v e p = reworded (ap (λ (w : Verdict). saidOf w g t m) (sym e)) p
 
   pub answered-yes :
-      {b : List ℕ} {r : ℕ} {c : List ℕ} → apartOn g t m ≡ Yes → Put b 0 (sidesText g t m ++ endText g t (ascii "apart\n")) r c → Put b 0 (reportText g t m) r c
+      {b : List ℕ} {r : ℕ} {c : List ℕ} → apartOn g t m ≡ Yes → Put b 0 (sidesText g t m ++ closingText g t (ascii "apart\n")) r c → Put b 0 (reportText g t m) r c
   unfolding saidOf
   answered-yes e p = said Yes e p
 
   pub answered-no :
       {b : List ℕ} {p : ℕ} {c : List ℕ} {q : ℕ} {d : List ℕ} {r : ℕ} {f : List ℕ} → apartOn g t m ≡ No → Put b 0 (sidesText g t m) p c
-      → Put c p (reasonLines 6 0 g t m) q d → Put d q (endText g t (ascii "not apart\n")) r f → Put b 0 (reportText g t m) r f
+      → Put c p (reasonLines 6 0 g t m) q d → Put d q (closingText g t (ascii "not apart\n")) r f → Put b 0 (reportText g t m) r f
   unfolding saidOf
   answered-no e x y z = said No e (follow (follow x y) z)
 

@@ -52,14 +52,14 @@ stoppedText [] = []
 stoppedText (k ∷ l) = ascii "not running, so not judged: " ++ coresText (k ∷ l) ++ ascii "\n"
 
 -- the words of the verdict, below the line of the cores that are not judged
-abbrev pub endText : ℕ → List ℕ → List ℕ → List ℕ
-endText g t words = stoppedText (stopped g t) ++ words
+abbrev pub closingText : ℕ → List ℕ → List ℕ → List ℕ
+closingText g t words = stoppedText (stopped g t) ++ words
 
 -- what is said of a verdict; there are at most six reasons
 unfoldable pub saidOf : Verdict → ℕ → List ℕ → List ℕ → List ℕ
 saidOf (Refused n) g t m = refusedText n
-saidOf Yes g t m = sidesText g t m ++ endText g t (ascii "apart\n")
-saidOf No g t m = sidesText g t m ++ reasonLines 6 0 g t m ++ endText g t (ascii "not apart\n")
+saidOf Yes g t m = sidesText g t m ++ closingText g t (ascii "apart\n")
+saidOf No g t m = sidesText g t m ++ reasonLines 6 0 g t m ++ closingText g t (ascii "not apart\n")
 
 -- the report on the group g of the machine with tables t and memory m
 unfoldable pub reportText : ℕ → List ℕ → List ℕ → List ℕ

@@ -129,7 +129,7 @@ fn put_stopped(out: &mut [u8], at: usize, t: &[u32], group: u32) -> usize
 fn put_end(out: &mut [u8], at: usize, t: &[u32], group: u32, words: &[u8]) -> usize
     requires { ⌜ (coresOf (now t) ≤ 4) × (32 + 256 * coresOf (now t) ≤ length (now t)) ⌝ }
     requires { ⌜ (at + 55 ≤ length (now out)) × (length (now words) ≤ 10) ⌝ }
-    ensures { λ r. ⌜ Put (now (out .entry)) at (report.endText group (now (t .entry)) (now (words .entry))) r (now (out .exit)) × (r ≤ at + 55) ⌝ }
+    ensures { λ r. ⌜ Put (now (out .entry)) at (report.closingText group (now (t .entry)) (now (words .entry))) r (now (out .exit)) × (r ≤ at + 55) ⌝ }
 {
     let p = put_stopped(out, at, t, group);
     put(out, p, words)

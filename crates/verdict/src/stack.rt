@@ -1,5 +1,5 @@
-// How many bytes the stack may take, as the system says it in /proc/self/limits. (libc::getrlimit fills a struct behind
-// a reference.)
+// How many bytes the stack may take, as the system says it in /proc/self/limits. (libc::getrlimit would be shorter, but
+// it fills a struct behind a reference, whose proof is long.)
 ghost use Prim.Native.Nat.{_+_, _≤_, _^_, _<_};
 ghost use lib.ListN.{length};
 
