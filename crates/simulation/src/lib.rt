@@ -96,8 +96,8 @@ fn take(t: &mut [u32], m: &mut [u8], input: &[u8], at: usize) -> Answer
     machine::step(t, m, &s)
 }
 
-// All whole steps of a part of the input, at most 1,024; a line for each. `place` is the number of the first, and so many
-// were accepted earlier.
+// All whole steps of a part of the input, at most 1,024; a line for each. `place` is the number of the first, and
+// `earlier` how many were accepted before it.
 pub fn take_steps(
     t: &mut [u32],
     m: &mut [u8],

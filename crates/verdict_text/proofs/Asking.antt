@@ -1,5 +1,5 @@
--- What arguments mean: the decimal number of a core names it, and nothing else does; and the group that is judged has the
--- cores that are named, and no others.
+-- What arguments mean: the decimal number of a core names it, and nothing else does; and the group that is judged has
+-- the cores that are named, and no others.
 -- Assumes nothing.
 use mathlib.Core.Path.{_≡_, refl, sym, ap, _∙_}
 use mathlib.Core.Bool.{Bool, true, false, _||_, true≢false}

@@ -41,7 +41,7 @@ none-of false v e = refl
 
 no-digit : (s : List ℕ) → (leb 48 (getD s 0 0) && leb (getD s 0 0) 51) ≡ false → namedCore s ≡ 4
 unfolding namedCore
-no-digit s e = none-of (eqb (length s) 1) (getD s 0 0 - 48) e
+no-digit s e = none-of (eqb (length s) 1) _ e
 
 no-length : (s : List ℕ) → length s ≢ 1 → namedCore s ≡ 4
 unfolding namedCore

@@ -1,5 +1,5 @@
--- A text that is put line by line: what is put and what is left are the whole. It serves contracts and proofs inside alone (`all-lines` of proofs/Answers
--- ends with the whole).
+-- A text that is put line by line: what is put and what is left are the whole. It serves contracts and proofs inside
+-- alone (`all-lines` of proofs/Answers ends with the whole).
 -- Assumes nothing.
 use mathlib.Core.Path.{_≡_}
 use mathlib.Core.List.{List, _++_}
