@@ -15,7 +15,7 @@ use Rattle.tables.specs.Views.{coresOf, runs}
 use Rattle.reach.specs.Reach.{members}
 use Rattle.separation.proofs.Members.{Bits, bits-put, bits-members}
 use Rattle.picture.specs.Lines.{coresText}
-use Rattle.judgement.specs.Report.{isStopped, stopped, stoppedText}
+use Rattle.judgement.specs.Report.{isStopped, notJudged, stoppedText}
 
 -- the bit that the code puts
 pub stopped-put :
@@ -24,8 +24,8 @@ pub stopped-put :
 stopped-put g t r s k i u p q e o =
     bits-put (isStopped g t) r s k (not i && not u) (ap₂ (λ (a b : Bool). not a && not b) p q) e o
 
-pub stopped-members : (g : ℕ) (t : List ℕ) (r : ℕ) → Bits (isStopped g t) r (coresOf t) → members r (coresOf t) ≡ stopped g t
-unfolding stopped
+pub stopped-members : (g : ℕ) (t : List ℕ) (r : ℕ) → Bits (isStopped g t) r (coresOf t) → members r (coresOf t) ≡ notJudged g t
+unfolding notJudged
 stopped-members g t r o = bits-members (isStopped g t) r (coresOf t) o
 
 no-cores : (k : List ℕ) → length k ≡ 0 → [] ≡ stoppedText k

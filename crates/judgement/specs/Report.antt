@@ -43,8 +43,8 @@ sidesText g t m =
 abbrev pub isStopped : ℕ → List ℕ → ℕ → Bool
 isStopped g t k = not (isSet g k) && not (runs (block t k))
 
-unfoldable pub stopped : ℕ → List ℕ → List ℕ
-stopped g t = select (isStopped g t) (range (coresOf t))
+unfoldable pub notJudged : ℕ → List ℕ → List ℕ
+notJudged g t = select (isStopped g t) (range (coresOf t))
 
 -- their line, where there are any
 unfoldable pub stoppedText : List ℕ → List ℕ
@@ -53,7 +53,7 @@ stoppedText (k ∷ l) = ascii "not running, so not judged: " ++ coresText (k ∷
 
 -- the words of the verdict, below the line of the cores that are not judged
 abbrev pub closingText : ℕ → List ℕ → List ℕ → List ℕ
-closingText g t words = stoppedText (stopped g t) ++ words
+closingText g t words = stoppedText (notJudged g t) ++ words
 
 -- what is said of a verdict; there are at most six reasons
 unfoldable pub saidOf : Verdict → ℕ → List ℕ → List ℕ → List ℕ

@@ -97,7 +97,7 @@ fn put_reasons(
 // The cores outside the group that do not run, as a group.
 fn stopped(t: &[u32], group: u32) -> u32
     requires { ⌜ (coresOf (now t) ≤ 4) × (32 + 256 * coresOf (now t) ≤ length (now t)) ⌝ }
-    ensures { λ r. ⌜ members r (coresOf (now (t .entry))) ≡ report.stopped group (now (t .entry)) ⌝ }
+    ensures { λ r. ⌜ members r (coresOf (now (t .entry))) ≡ report.notJudged group (now (t .entry)) ⌝ }
 {
     let cores = t[CORES];
     let mut r: u32 = 0;
@@ -113,7 +113,7 @@ fn stopped(t: &[u32], group: u32) -> u32
 // The line of the cores that are not judged, where there are any: at most 45 bytes.
 fn put_stopped(out: &mut [u8], at: usize, t: &[u32], group: u32) -> usize
     requires { ⌜ (coresOf (now t) ≤ 4) × (32 + 256 * coresOf (now t) ≤ length (now t)) × (at + 45 ≤ length (now out)) ⌝ }
-    ensures { λ r. ⌜ Put (now (out .entry)) at (report.stoppedText (report.stopped group (now (t .entry)))) r (now (out .exit)) × (r ≤ at + 45) ⌝ }
+    ensures { λ r. ⌜ Put (now (out .entry)) at (report.stoppedText (report.notJudged group (now (t .entry)))) r (now (out .exit)) × (r ≤ at + 45) ⌝ }
 {
     let cores = t[CORES];
     let still = stopped(t, group);

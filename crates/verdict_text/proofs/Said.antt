@@ -21,7 +21,7 @@ use Rattle.layout.specs.Layout.{tableWords, mostCores, mostPages}
 use Rattle.tables.specs.Sound.{upTo}
 use Rattle.tables.proofs.Answers.{up-to}
 use Rattle.judgement.specs.Report.{reportText}
-use Rattle.verdict_text.specs.Arguments.{argumentsIn, namedCore, Asked, Cores, NoCore, askedFrom}
+use Rattle.verdict_text.specs.Arguments.{argumentsIn, namedCore, Question, Cores, NoCore, askedFrom}
 use Rattle.verdict_text.specs.Wrong as wrong
 use Rattle.verdict_text.specs.inner.First.{first}
 use Rattle.verdict_text.proofs.Named.{wrong-argument}
@@ -102,11 +102,11 @@ unfolding judged
 said-long-arguments a input h = rw (lt-ltb 4096 (length a) h) refl
 
 module _ (a : List ℕ) (h : length a ≤ 4096) where
-  pub said-by-arguments : (x : Asked) → askedFrom 0 (argumentsIn a) ≡ x → (input : List ℕ) → judged a input ≡ answered x input
+  pub said-by-arguments : (x : Question) → askedFrom 0 (argumentsIn a) ≡ x → (input : List ℕ) → judged a input ≡ answered x input
   unfolding judged
-  said-by-arguments x e input = rw (le-ltb 4096 (length a) h) (ap (λ (y : Asked). answered y input) e)
+  said-by-arguments x e input = rw (le-ltb 4096 (length a) h) (ap (λ (y : Question). answered y input) e)
 
-  pub asks-by-arguments : (x : Asked) → askedFrom 0 (argumentsIn a) ≡ x → namesGroup x ≡ asksInput a
+  pub asks-by-arguments : (x : Question) → askedFrom 0 (argumentsIn a) ≡ x → namesGroup x ≡ asksInput a
   unfolding asksInput
   asks-by-arguments x e = rw (le-ltb 4096 (length a) h) (ap namesGroup (sym e))
 
@@ -168,7 +168,7 @@ module _ (input : List ℕ) (n : ℕ) (h : machineBytes mostCores (min (inputPag
       ⊎-elim (λ (l : n < length input). by-cores g l (upTo mostCores (inputCores input)) refl) (λ (l : length input ≤ n). ap (ofInput g) (take-all n input l))
       (side n (length input))
 
-  same-answer : (x : Asked) → answered x (take n input) ≡ answered x input
+  same-answer : (x : Question) → answered x (take n input) ≡ answered x input
   unfolding answered
   same-answer (NoCore s) = refl
   same-answer (Cores g) = ap (λ (x : List ℕ). if eqb g 0 then wrong.noGroupText else x) (same-input g)
@@ -241,12 +241,12 @@ module _ (a : List ℕ) (h : length a ≤ 4096) (g at : ℕ) (A : askedFrom 0 (a
 
 -- ---- where the input does not count, the same is said whatever it is
 
-same-said : (x : Asked) → namesGroup x ≡ false → (input : List ℕ) → answered x input ≡ answered x []
+same-said : (x : Question) → namesGroup x ≡ false → (input : List ℕ) → answered x input ≡ answered x []
 unfolding answered
 same-said (NoCore s) e input = refl
 same-said (Cores g) e input = let z : g ≡ 0 = eqb-true g 0 (not-false (eqb g 0) e) in rw (eq-eqb g 0 z) refl
 
-by-length : (b : Bool) (x : Asked) → (not b && namesGroup x) ≡ false → (input : List ℕ) → (if b then wrong.longArgumentsText else answered x input) ≡ (if b then wrong.longArgumentsText else answered x [])
+by-length : (b : Bool) (x : Question) → (not b && namesGroup x) ≡ false → (input : List ℕ) → (if b then wrong.longArgumentsText else answered x input) ≡ (if b then wrong.longArgumentsText else answered x [])
 by-length true x e input = refl
 by-length false x e input = same-said x e input
 

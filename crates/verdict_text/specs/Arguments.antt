@@ -22,11 +22,11 @@ unfoldable pub namedCore : List ℕ → ℕ
 namedCore s = if eqb (length s) 1 && (leb 48 (getD s 0 0) && leb (getD s 0 0) 51) then getD s 0 0 - 48 else 4
 
 -- the cores that arguments name, as a group; or the first argument that names none
-pub data Asked : Type 0 where
-  Cores : ℕ → Asked
-  NoCore : List ℕ → Asked
+pub data Question : Type 0 where
+  Cores : ℕ → Question
+  NoCore : List ℕ → Question
 
 -- where the arguments before these named the cores of g
-unfoldable pub askedFrom : ℕ → List (List ℕ) → Asked
+unfoldable pub askedFrom : ℕ → List (List ℕ) → Question
 askedFrom g [] = Cores g
 askedFrom g (s ∷ l) = if eqb (namedCore s) 4 then NoCore s else askedFrom (withBit g (namedCore s) 1) l

@@ -10,7 +10,7 @@ use Rattle.word.specs.Bytes.{bytesAt, wordsIn}
 use Rattle.layout.specs.Layout.{tableWords, pageBytes, mostCores, mostPages}
 use Rattle.tables.specs.Sound.{upTo}
 use Rattle.judgement.specs.Report.{reportText}
-use Rattle.verdict_text.specs.Arguments.{argumentsIn, Asked, Cores, NoCore, askedFrom}
+use Rattle.verdict_text.specs.Arguments.{argumentsIn, Question, Cores, NoCore, askedFrom}
 use Rattle.verdict_text.specs.Wrong as wrong
 
 -- ---- the input: the table words of a machine, low byte first, and then its memory
@@ -51,7 +51,7 @@ mostArguments = 4096
 abbrev pub noCore : List ℕ → List ℕ
 noCore s = wrong.noCoreText (take 16 s) (ltb 16 (length s))
 
-unfoldable pub answered : Asked → List ℕ → List ℕ
+unfoldable pub answered : Question → List ℕ → List ℕ
 answered (NoCore s) input = noCore s
 answered (Cores g) input = if eqb g 0 then wrong.noGroupText else ofInput g input
 
@@ -61,7 +61,7 @@ judged arguments input =
 
 -- ---- whether the input counts: the law `unasked` of proofs/Said says that it does not elsewhere
 
-abbrev pub namesGroup : Asked → Bool
+abbrev pub namesGroup : Question → Bool
 namesGroup (NoCore s) = false
 namesGroup (Cores g) = not (eqb g 0)
 
