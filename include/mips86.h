@@ -29,12 +29,12 @@ extern "C" {
 #define MIPS86_MOST_STEPS 1024
 
 /*
- * The tables, in short. Words 0 to 31 are the header: 0 cores, 1 pages, 2 the count of refused steps, 3 the interrupt
- * lines (bit n is line n), 4 IOREGSEL, 5 IOWIN, 6 to 29 the redirect entries, 30 and 31 zero.
+ * The tables, in short. Words 0 to 31 are the header: 0 cores, 1 pages, 2 the count of refusals that no core counts,
+ * 3 the interrupt lines (bit n is line n), 4 IOREGSEL, 5 IOWIN, 6 to 29 the redirect entries, 30 and 31 zero.
  * The block of core k starts at word 32 + 256 * k. In it: 0 to 31 the general registers, 32 to 63 the special
  * registers, 64 pc, 65 HI, 66 LO, 67 running (0 or 1), 68 to 70 the first pending store, walk and free record, 71 zero,
  * 72 to 103 the 128 bytes of the local APIC's ports, low byte first, 104 to 111 the EOI pending bits, 112 sipirr,
- * 113 sipivect, 114 initrr, 115 to 127 zero, 128 to 255 the 32 records of four words.
+ * 113 sipivect, 114 initrr, 115 the core's count of refusals, 116 to 127 zero, 128 to 255 the 32 records of four words.
  *
  * A step's words: kind, core or line, and four more.
  *    0 core (fetch walk, data walk: two words each)    6 apic-sendEOI
@@ -45,6 +45,16 @@ extern "C" {
  *    5 apic-sendIPI                                   11 set line (level 0 or 1)
  * Words that a kind does not name are zero.
  */
+
+/*
+ * The counts of refusals, by their places in the tables. A refused step of six words whose kind is 0 to 8 and whose
+ * core is there counts in that core's word, whatever the refusal, also 5 for its other words. In the header count a
+ * core that is not there, kinds 9 and above, and calls of more or fewer than six words. Refusal 4 counts nowhere, nor
+ * does 11 of run. Each count stays at 4,294,967,295 once there. Make puts 0; nothing else writes them, INIT and the
+ * start of a core neither.
+ */
+#define MIPS86_REFUSALS ((size_t)2)
+#define MIPS86_CORE_REFUSALS(core) (32 + 256 * (size_t)(core) + 115)
 
 /*
  * What is asked of every call. Each pointer is not null, is aligned for its type, and points to as many words or bytes
@@ -93,7 +103,7 @@ uint32_t mips86_make(uint32_t *tables, size_t ntables, const uint8_t *memory, si
 /*
  * Takes one step. A step whose length is not six is not a step (5).
  * Answers 0 where it is done, 1 to 8 where a core took an interrupt of level 0 to 7, or a refusal (4 to 10).
- * Refusal 4 writes nothing; 5 to 10 write the count of refused steps alone, which stays at 4,294,967,295 once there.
+ * Refusal 4 writes nothing; 5 to 10 write one count of refusals alone, that of the step's core or the header's.
  */
 uint32_t mips86_step(uint32_t *tables, size_t ntables, uint8_t *memory, size_t nmemory, const uint32_t *step,
                      size_t nstep);
@@ -102,7 +112,8 @@ uint32_t mips86_step(uint32_t *tables, size_t ntables, uint8_t *memory, size_t n
  * Takes the steps of a schedule one after the other: to its end, until `limit` steps are accepted, or up to and
  * with the first that is refused. The end is looked at before the limit.
  * Answers 0 at the end, 1 where the limit is spent, or a refusal: 4 and 11 before any step, and then nothing of the
- * machine is written, or 5 to 10 of a step. Writes to *accepted how many steps were accepted (0 with 4 and 11).
+ * machine is written, or 5 to 10 of a step, which is counted as by itself. Writes to *accepted how many steps were
+ * accepted (0 with 4 and 11).
  * The tables are checked once, so a run costs less than its steps by themselves.
  */
 uint32_t mips86_run(uint32_t *tables, size_t ntables, uint8_t *memory, size_t nmemory, const uint32_t *schedule,

@@ -21,6 +21,7 @@ static void check_at(int line, const char *what, unsigned long found, unsigned l
 
 /* places of the tables */
 enum { CORES = 0, PAGES = 1, REFUSALS = 2, LINES = 3, BLOCK = 32, PTO = 37, ASID = 38, MODE = 39, PC = 64 };
+enum { CORE_0_REFUSALS = 32 + 115 };
 enum { RUNNING = 67, STORES = 68, WALKS = 69, FREE = 70, PORTS = 72, RECORDS = 128 };
 
 /* a machine, and a copy of it to compare with; there is room for the fifth core that make refuses */
@@ -112,10 +113,10 @@ static void test_example(void) {
     expected[LINES] = 8;
     CHECK(SAME(), 1);
     CHECK(step(drain, 6), 106);
-    expected[REFUSALS] = 1;
+    expected[CORE_0_REFUSALS] = 1;
     CHECK(SAME(), 1);
     CHECK(step(nothing, 6), 105);
-    expected[REFUSALS] = 2;
+    expected[REFUSALS] = 1;
     CHECK(SAME(), 1);
 }
 
@@ -132,6 +133,39 @@ static void test_lengths(void) {
     remember();
     CHECK(step(line3, 5), 105);
     CHECK(SAME(), 1);
+}
+
+/* the counts of refusals on a machine of four cores: the header's, then the cores', whose places the header names */
+static void test_refusals(void) {
+    static const struct {
+        uint32_t words[6];
+        uint32_t number;
+        size_t at;
+    } rows[] = {
+        {{4, 0, 0, 0, 0, 0}, 106, CORE_0_REFUSALS},           {{4, 3, 0, 0, 0, 0}, 106, CORE_0_REFUSALS + 3 * 256},
+        {{8, 2, 0, 0, 0, 0}, 106, CORE_0_REFUSALS + 2 * 256}, {{7, 1, 0, 0, 0, 1}, 105, CORE_0_REFUSALS + 256},
+        {{2, 1, 0, 0, 8, 0}, 105, CORE_0_REFUSALS + 256},     {{4, 4, 0, 0, 0, 0}, 105, REFUSALS},
+        {{9, 3, 0, 0, 0, 0}, 106, REFUSALS},               {{11, 2, 2, 0, 0, 0}, 105, REFUSALS},
+        {{12, 1, 0, 0, 0, 0}, 105, REFUSALS},
+    };
+    uint32_t accepted;
+    CHECK(MIPS86_REFUSALS, REFUSALS);
+    CHECK(MIPS86_CORE_REFUSALS(0), CORE_0_REFUSALS);
+    CHECK(MIPS86_CORE_REFUSALS(3), CORE_0_REFUSALS + 3 * 256);
+    for (size_t i = 0; i < sizeof rows / sizeof *rows; i++) {
+        make(4, 1);
+        tables[REFUSALS] = tables[MIPS86_CORE_REFUSALS(1)] = 0xFFFFFFFE;
+        remember();
+        for (uint32_t n = 0; n < 3; n++) {
+            CHECK(step(rows[i].words, 6), rows[i].number);
+            if (expected[rows[i].at] != 0xFFFFFFFF) expected[rows[i].at]++;
+            CHECK(SAME(), 1);
+        }
+        CHECK(run(rows[i].words, 6, 1, &accepted), rows[i].number);
+        CHECK(accepted, 0);
+        if (expected[rows[i].at] != 0xFFFFFFFF) expected[rows[i].at]++;
+        CHECK(SAME(), 1);
+    }
 }
 
 static void test_unsound(void) {
@@ -172,6 +206,7 @@ static void test_core(void) {
     CHECK(step(core0, 6), MIPS86_INTERRUPT + 3);
     CHECK(tables[BLOCK + 32 + 3], 6);
     CHECK(tables[REFUSALS], 0);
+    CHECK(tables[CORE_0_REFUSALS], 0);
 }
 
 static void test_run(void) {
@@ -206,7 +241,7 @@ static void test_run(void) {
     CHECK(SAME(), 1);
     CHECK(run(schedule, 24, 0xFFFFFFFF, &accepted), 106);
     CHECK(accepted, 2);
-    expected[REFUSALS] = 1;
+    expected[CORE_0_REFUSALS] = 1;
     CHECK(SAME(), 1);
 }
 
@@ -879,6 +914,7 @@ int main(void) {
     test_make();
     test_example();
     test_lengths();
+    test_refusals();
     test_unsound();
     test_core();
     test_run();

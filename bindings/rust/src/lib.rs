@@ -44,6 +44,14 @@ pub const fn table_words(cores: usize) -> usize {
     32 + 256 * cores
 }
 
+/// The word of the tables that counts the refusals that no core counts, see [`step`].
+pub const REFUSALS: usize = 2;
+
+/// The word of the tables that counts the refusals of a core, 0 to 3, see [`step`].
+pub const fn core_refusals(core: usize) -> usize {
+    32 + 256 * core + 115
+}
+
 /// What a step answers.
 #[derive(Clone, Copy, Debug, PartialEq, Eq)]
 pub enum Answer {
@@ -145,7 +153,8 @@ pub fn make(tables: &mut [u32], memory: &[u8], cores: u32) -> Result<(), u32> {
     }
 }
 
-/// Takes one step of six words.
+/// Takes one step of six words. A refusal but 4 is counted: in the word [`core_refusals`] of the core that a step of kind
+/// 0 to 8 names, and in the word [`REFUSALS`] where the core is not there and for all other steps.
 pub fn step(tables: &mut [u32], memory: &mut [u8], step: &[u32]) -> Answer {
     // SAFETY: as in `make`.
     let n = unsafe {

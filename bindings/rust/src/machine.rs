@@ -1,7 +1,7 @@
 //! A machine that owns its tables and its memory.
 
-use crate::{apart, make, reach, reasons, run, step, table_words, translate, why};
-use crate::{Answer, Ran, Reason, Translated, PAGE_BYTES, STEP_WORDS};
+use crate::{apart, core_refusals, make, reach, reasons, run, step, table_words, translate, why};
+use crate::{Answer, Ran, Reason, Translated, PAGE_BYTES, REFUSALS, STEP_WORDS};
 use std::fmt;
 
 /// A machine: its table words and its memory bytes, which are all of it.
@@ -88,6 +88,33 @@ impl Machine {
     /// ```
     pub fn run(&mut self, schedule: &[[u32; STEP_WORDS]], limit: u32) -> Ran {
         run(&mut self.tables, &mut self.memory, schedule.as_flattened(), limit)
+    }
+
+    /// How many steps of a core were refused: those of kinds 0 to 8 that name it, whatever the refusal but 4, single or
+    /// in a run. It stays at its largest, and a reset of the core keeps it. None where the tables have no such core.
+    ///
+    /// ```
+    /// use mips86::Machine;
+    ///
+    /// let mut m = Machine::make(2, 1)?;
+    /// m.step([4, 1, 0, 0, 0, 0]); // no store of core 1 is pending
+    /// m.step([4, 1, 9, 0, 0, 0]); // a store buffer step has no word 2
+    /// m.step([4, 2, 0, 0, 0, 0]); // there is no core 2
+    /// assert_eq!((m.core_refusals(0), m.core_refusals(1), m.core_refusals(2)), (Some(0), Some(2), None));
+    /// assert_eq!(m.refusals(), 1);
+    /// # Ok::<(), u32>(())
+    /// ```
+    pub fn core_refusals(&self, core: usize) -> Option<u32> {
+        if core >= 4 {
+            return None;
+        }
+        self.tables.get(core_refusals(core)).copied()
+    }
+
+    /// How many steps were refused that no core counts: those of a core that is not there and of kinds 9 and above, and
+    /// calls of more or fewer than six words. It stays at its largest. 0 where the tables have no such word.
+    pub fn refusals(&self) -> u32 {
+        self.tables.get(REFUSALS).copied().unwrap_or(0)
     }
 
     /// The pages that a group of cores reaches. The error is the number of the refusal: 4 where the tables are not

@@ -2,7 +2,7 @@
 
 mod machine;
 
-use machine::{Machine, BLOCK, CORES, FREE, LINES, PAGES, PC, PORTS, RECORDS, REFUSALS, RUNNING, SPR};
+use machine::{Machine, BLOCK, CORES, FREE, LINES, OWN_REFUSALS, PAGES, PC, PORTS, RECORDS, REFUSALS, RUNNING, SPR};
 use mips86::{make, run, step, table_words, Answer, Ran, Stop, PAGE_BYTES};
 
 const LINE_3: [u32; 6] = [11, 3, 1, 0, 0, 0];
@@ -63,10 +63,10 @@ fn example_of_the_run_program() {
     expected.tables[LINES] = 8;
     assert_eq!(m, expected);
     assert_eq!(m.step(&DRAIN), Answer::Refused(6));
-    expected.tables[REFUSALS] = 1;
+    expected.tables[BLOCK + OWN_REFUSALS] = 1;
     assert_eq!(m, expected);
     assert_eq!(m.step(&NOTHING), Answer::Refused(5));
-    expected.tables[REFUSALS] = 2;
+    expected.tables[REFUSALS] = 1;
     assert_eq!(m, expected);
 }
 
@@ -116,7 +116,7 @@ fn core_steps_and_interrupts() {
     m.tables[BLOCK + PC] = 6;
     assert_eq!(m.step(&CORE_0), Answer::Interrupt(3));
     assert_eq!(m.tables[BLOCK + SPR + 3], 6);
-    assert_eq!(m.tables[REFUSALS], 0);
+    assert_eq!((m.tables[REFUSALS], m.tables[BLOCK + OWN_REFUSALS]), (0, 0));
 }
 
 #[test]
@@ -140,6 +140,6 @@ fn runs() {
     expected.tables[LINES] = 1 << 3 | 1 << 5;
     assert_eq!(m, expected);
     assert_eq!(m.run(&schedule, u32::MAX), ran(2, Stop::Refused(6)));
-    expected.tables[REFUSALS] = 1;
+    expected.tables[BLOCK + OWN_REFUSALS] = 1;
     assert_eq!(m, expected);
 }

@@ -7,7 +7,7 @@
 
 mod machine;
 
-use machine::{Machine, BLOCK, ECA, LINES, MODE, PTO, REFUSALS, REST, SR};
+use machine::{Machine, BLOCK, ECA, INITRR, LINES, MODE, OWN_REFUSALS, PTO, REFUSALS, REST, SR};
 use mips86::Answer::{Done, Interrupt, Refused};
 use mips86::{translate_into, Ran, Stop};
 
@@ -66,14 +66,15 @@ fn twenty_three_walks() {
     assert_eq!(machine.step(&tlb_create(23)), Refused(9));
 }
 
-/// 01, the run program's example: a line rises, no store is pending, there is no kind 15. Both refusals are counted.
+/// 01, the run program's example: a line rises, no store is pending, there is no kind 15. Both refusals are counted,
+/// the first by the core whose buffer is empty, the second in the header.
 #[test]
 fn example_of_the_run_program() {
     let mut machine = fresh();
     assert_eq!(machine.step(&RAISE_LINE_3), Done);
     assert_eq!(machine.step(&STORE_BUFFER), Refused(6));
     assert_eq!(machine.step(&NO_KIND), Refused(5));
-    assert_eq!(machine.tables[REFUSALS], 2);
+    assert_eq!(counts(&machine), [1, 1]);
 }
 
 /// 01: a step is six words, no fewer and no more; what is not a step is counted too.
@@ -85,15 +86,102 @@ fn five_words_and_seven() {
     assert_eq!(machine.tables[REFUSALS], 2);
 }
 
-/// 01: the count of refusals stays at 4,294,967,295 once there.
+// ---- whose refusals
+
+/// The count in the header, then those of the cores.
+fn counts(machine: &Machine) -> Vec<u32> {
+    let own = (0..machine.cores()).map(|core| machine.block(core)[OWN_REFUSALS]);
+    std::iter::once(machine.tables[REFUSALS]).chain(own).collect()
+}
+
+/// 02, request 5: a refused step of kinds 0 to 8 counts by its core, whatever the refusal; the rest in the header. On two
+/// cores, of which core 0 runs in system mode and nothing is pending.
 #[test]
-fn the_largest_count() {
+fn whose_refusals() {
+    #[rustfmt::skip]
+    let rows: [(&[u32], u32, [u32; 3]); 34] = [
+        // step, refusal, header, core 0, core 1
+        (&[0, 1, 0, 0, 0, 0],           6, [0, 0, 1]),
+        (&[1, 0, 0, 0, 0, 0],           6, [0, 1, 0]),
+        (&[1, 1, 0, 0, 0, 0],           6, [0, 0, 1]),
+        (&[2, 0, 0, 0, 0, 0],           6, [0, 1, 0]),
+        (&[3, 1, 0, 0, 0, 0],           6, [0, 0, 1]),
+        (&[4, 1, 0, 0, 0, 0],           6, [0, 0, 1]),
+        (&[5, 1, 0, 0, 0, 0],           6, [0, 0, 1]),
+        (&[6, 0, 0, 0, 0, 0],           6, [0, 1, 0]),
+        (&[7, 1, 0, 0, 0, 0],           6, [0, 0, 1]),
+        (&[8, 1, 0, 0, 0, 0],           6, [0, 0, 1]),
+        // not a step: va, rights, stray words
+        (&[1, 1, 0x10_0000, 0, 0, 0],   5, [0, 0, 1]),
+        (&[1, 0, 0, 1, 0, 0],           5, [0, 1, 0]),
+        (&[2, 1, 0, 0, 8, 0],           5, [0, 0, 1]),
+        (&[2, 1, 0, 0, 0, 1],           5, [0, 0, 1]),
+        (&[3, 0, 0, 0, 0, 1],           5, [0, 1, 0]),
+        (&[4, 1, 0, 0, 0, 1],           5, [0, 0, 1]),
+        (&[7, 0, 1, 0, 0, 0],           5, [0, 1, 0]),
+        (&[8, 1, u32::MAX, 0, 0, 0],    5, [0, 0, 1]),
+        // a core that is not there
+        (&[0, 2, 0, 0, 0, 0],           5, [1, 0, 0]),
+        (&[4, u32::MAX, 0, 0, 0, 0],    5, [1, 0, 0]),
+        (&[8, 4, 0, 0, 0, 0],           5, [1, 0, 0]),
+        // kinds 9 and above, also with the number of a core for the line
+        (&[9, 0, 0, 0, 0, 1],           5, [1, 0, 0]),
+        (&[9, 1, 0, 0, 0, 0],           6, [1, 0, 0]),
+        (&[10, 0, 0, 0, 0, 0],          6, [1, 0, 0]),
+        (&[11, 1, 2, 0, 0, 0],          5, [1, 0, 0]),
+        (&[11, 24, 1, 0, 0, 0],         5, [1, 0, 0]),
+        (&[12, 0, 0, 0, 0, 0],          5, [1, 0, 0]),
+        (&[256, 1, 0, 0, 0, 0],         5, [1, 0, 0]),
+        (&[u32::MAX, 1, 0, 0, 0, 0],    5, [1, 0, 0]),
+        // more or fewer than six words
+        (&[],                           5, [1, 0, 0]),
+        (&[4],                          5, [1, 0, 0]),
+        (&[4, 1],                       5, [1, 0, 0]),
+        (&[4, 1, 0, 0, 0],              5, [1, 0, 0]),
+        (&[4, 1, 0, 0, 0, 0, 0],        5, [1, 0, 0]),
+    ];
+    for (step, refusal, expected) in rows {
+        let mut machine = Machine::new(2, 1);
+        let before = machine.clone();
+        assert_eq!((machine.step(step), counts(&machine)), (Refused(refusal), expected.to_vec()), "{step:?}");
+        machine.tables[REFUSALS] = 0;
+        (0..2).for_each(|core| machine.block_mut(core)[OWN_REFUSALS] = 0);
+        assert_eq!(machine, before, "{step:?}");
+    }
+}
+
+/// 01 and 02, request 5: each count stays at 4,294,967,295 once there, by itself.
+#[test]
+fn the_largest_counts() {
     let mut machine = fresh();
     machine.tables[REFUSALS] = 4_294_967_294;
-    assert_eq!(machine.step(&NO_KIND), Refused(5));
-    assert_eq!(machine.tables[REFUSALS], 4_294_967_295);
-    assert_eq!(machine.step(&NO_KIND), Refused(5));
-    assert_eq!(machine.tables[REFUSALS], 4_294_967_295);
+    machine.tables[BLOCK + OWN_REFUSALS] = 4_294_967_293;
+    for expected in [[4_294_967_295, 4_294_967_294], [4_294_967_295, 4_294_967_295], [4_294_967_295, 4_294_967_295]] {
+        assert_eq!((machine.step(&NO_KIND), machine.step(&STORE_BUFFER)), (Refused(5), Refused(6)));
+        assert_eq!(counts(&machine), expected);
+    }
+}
+
+/// 02, request 5: a core's reset and its start keep its count, and sound tables let it be any number, but not the words
+/// after it. INIT is asked of core 1, then a start.
+#[test]
+fn reset_keeps_the_count() {
+    let mut machine = Machine::new(2, 1);
+    machine.tables[REFUSALS] = 5;
+    machine.block_mut(0)[OWN_REFUSALS] = 6;
+    machine.block_mut(1)[OWN_REFUSALS] = 4_294_967_295;
+    machine.block_mut(1)[INITRR] = 1;
+    assert_eq!(machine.step(&[7, 1, 0, 0, 0, 0]), Done);
+    machine.block_mut(1)[INITRR - 2] = 1; // sipirr
+    assert_eq!(machine.step(&[8, 1, 0, 0, 0, 0]), Done);
+    assert_eq!(counts(&machine), [5, 6, 4_294_967_295]);
+    for word in OWN_REFUSALS + 1..128 {
+        let mut machine = machine.clone();
+        machine.block_mut(1)[word] = 1;
+        let before = machine.clone();
+        assert_eq!(machine.step(&[4, 1, 0, 0, 0, 0]), Refused(4), "word {word}");
+        assert_eq!(machine, before, "word {word}");
+    }
 }
 
 /// 01: on tables that are not sound every step is refused 4, whatever else is wrong with it, and not counted.
@@ -102,7 +190,8 @@ fn steps_on_unsound_tables() {
     let mut machine = unsound();
     assert_eq!(machine.step(&RAISE_LINE_3), Refused(4));
     assert_eq!(machine.step(&NO_KIND), Refused(4));
-    assert_eq!(machine.tables[REFUSALS], 0);
+    assert_eq!(machine.step(&STORE_BUFFER), Refused(4));
+    assert_eq!(counts(&machine), [0, 0]);
 }
 
 // ---- overflow: registers 1 and 2, or register 1 and an immediate, give register 3
@@ -189,7 +278,20 @@ fn a_run_up_to_a_refused_step() {
     let mut machine = fresh();
     let schedule = [RAISE_LINE_3, STORE_BUFFER, [11, 4, 1, 0, 0, 0]].concat();
     assert_eq!(machine.run(&schedule, 3), Ran { accepted: 1, stop: Stop::Refused(6) });
-    assert_eq!((machine.tables[LINES], machine.tables[REFUSALS]), (0b1000, 1));
+    assert_eq!((machine.tables[LINES], counts(&machine)), (0b1000, vec![0, 1]));
+}
+
+/// 02, request 5: the refused step of a run is counted where its single step is; 11 is not counted.
+#[test]
+fn the_counts_of_a_run() {
+    let mut machine = Machine::new(2, 1);
+    let refused = |accepted, number| Ran { accepted, stop: Stop::Refused(number) };
+    assert_eq!(machine.run(&[RAISE_LINE_3, [4, 1, 0, 0, 0, 1]].concat(), 9), refused(1, 5));
+    assert_eq!(counts(&machine), [0, 0, 1]);
+    assert_eq!(machine.run(&[RAISE_LINE_3, [4, 2, 0, 0, 0, 0]].concat(), 9), refused(1, 5));
+    assert_eq!(counts(&machine), [1, 0, 1]);
+    assert_eq!(machine.run(&[4, 1, 0, 0, 0], 9), refused(0, 11));
+    assert_eq!(counts(&machine), [1, 0, 1]);
 }
 
 /// 01: on tables that are not sound 4 comes before 11, which the seven words would give, and nothing is written.

@@ -5,8 +5,9 @@ use mathlib.Core.Logic.{_≢_, ⊎-elim, _⊎_, inl, inr}
 use Prim.Native.Nat.{ℕ, zero, suc, _+_, _-_, _*_, _<_, _≤_}
 use mathlib.Core.List.{List, _++_}
 use native.Mathlib.Omega.{arith}
-use lib.ListN.{length, getD, set, take, drop, length-append, length-take, length-drop, List·getD-append}
-use lib.Seq.{ext-getD, getD-take, getD-drop, getD-append-add, length-take-le, take-at, drop-at, drop-set-lt}
+use lib.ListN.{length, getD, set, take, drop, length-append, length-take, length-drop, length-set, List·getD-append}
+use lib.Seq.{ext-getD, getD-take, getD-drop, getD-append-add, length-take-le, take-at, drop-at, drop-set-lt, getD-set-other, getD-set-same}
+use native.Mathlib.Decide.{ℕ-discrete}
 use Rattle.layout.specs.Blocks.{block, withBlock}
 
 -- core k has a block
@@ -98,3 +99,48 @@ module _ (t : List ℕ) (k : ℕ) (b : List ℕ) (h : 32 + 256 * k + 256 ≤ len
 pub set-block : (t : List ℕ) (i v k : ℕ) → i < 32 → block (set t i v) k ≡ block t k
 unfolding block
 set-block t i v k h = ap (take 256) (drop-set-lt (32 + 256 * k) t i v (omega arith))
+
+-- a word of core k's block is written
+module _ (t : List ℕ) (k i v : ℕ) (h : 32 + 256 * k + 256 ≤ length t) (l : i < 256) where
+  abbrev c : List ℕ
+  c = set (block t k) i v
+
+  long : length c ≡ 256
+  long = length-set (block t k) i v ∙ block-long t k h
+
+  -- the words of the block that was put in
+  inner : (j : ℕ) → j < 256 → getD (withBlock t k c) (32 + 256 * k + j) 0 ≡ getD c j 0
+  inner j q = sym (block-at (withBlock t k c) k j q) ∙ ap (λ (b : List ℕ). getD b j 0) (with-block t k c h long)
+
+  pub set-own : set t (32 + 256 * k + i) v ≡ withBlock t k c
+  set-own =
+      ext-getD 0 (set t (32 + 256 * k + i) v) (withBlock t k c) (length-set t (32 + 256 * k + i) v ∙ sym (with-long t k c h long))
+      (λ j p. ⊎-elim (λ q. other j (omega arith) ∙ sym (with-before t k c h long j q))
+      (λ q. ⊎-elim (λ r. within (j - (32 + 256 * k)) j (omega arith) (omega arith)) (λ r. other j (omega arith) ∙ sym (with-after t k c h long j r)) (side j (32 + 256 * k + 256)))
+      (side j (32 + 256 * k)))
+    where
+      side : (x y : ℕ) → (x < y) ⊎ (y ≤ x)
+      side zero zero = inr (omega arith)
+      side zero (suc y) = inl (omega arith)
+      side (suc x) zero = inr (omega arith)
+      side (suc x) (suc y) = ⊎-elim (λ q. inl (omega arith)) (λ q. inr (omega arith)) (side x y)
+
+      other : (j : ℕ) → j ≢ 32 + 256 * k + i → getD (set t (32 + 256 * k + i) v) j 0 ≡ getD t j 0
+      other j d = getD-set-other t (32 + 256 * k + i) j v 0 d
+
+      either : {A B : Type 0} → Dec A → (A → B) → ((A → ⊥) → B) → B
+      either (yes a) f g = f a
+      either (no a) f g = g a
+
+      within : (r j : ℕ) → j ≡ 32 + 256 * k + r → r < 256 → getD (set t (32 + 256 * k + i) v) j 0 ≡ getD (withBlock t k c) j 0
+      within r j e q =
+          rw e
+          (either (ℕ-discrete r i)
+          (λ f. rw f (getD-set-same t (32 + 256 * k + i) v 0 (omega arith) ∙ sym (inner i l ∙ getD-set-same (block t k) i v 0 (omega (arith, block-long t k h)))))
+          (λ d. other (32 + 256 * k + r) (omega arith) ∙ sym (inner r q ∙ getD-set-other (block t k) i r v 0 d ∙ block-at t k r q)))
+
+  pub set-own-block : block (set t (32 + 256 * k + i) v) k ≡ set (block t k) i v
+  set-own-block = ap (λ (u : List ℕ). block u k) set-own ∙ with-block t k c h long
+
+  pub set-own-other : (j : ℕ) → j ≢ k → 32 + 256 * j + 256 ≤ length t → block (set t (32 + 256 * k + i) v) j ≡ block t j
+  set-own-other j d q = ap (λ (u : List ℕ). block u j) set-own ∙ with-other t k c h long j d q

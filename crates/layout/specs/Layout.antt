@@ -13,6 +13,7 @@ cores = 0
 abbrev pub pages : ℕ
 pages = 1
 
+-- the refused calls that no core's block counts (02, 'Whose refusals?')
 abbrev pub refusals : ℕ
 refusals = 2
 
@@ -100,12 +101,16 @@ sipivect = 113
 abbrev pub initrr : ℕ
 initrr = 114
 
+-- the refused steps of kinds 0 to 8 whose core is this one (02, 'Whose refusals?')
+abbrev pub ownRefusals : ℕ
+ownRefusals = 115
+
 -- the words up to the records are zero
 abbrev pub blockRest : ℕ
-blockRest = 115
+blockRest = 116
 
 abbrev pub blockRestWords : ℕ
-blockRestWords = 13
+blockRestWords = 12
 
 -- 32 records of four words, numbered 0 to 31
 abbrev pub records : ℕ

@@ -57,9 +57,11 @@ pub const SIPIVECT: usize = 113;
 
 pub const INITRR: usize = 114;
 
-pub const BLOCK_REST: usize = 115;
+pub const OWN_REFUSALS: usize = 115;
 
-pub const BLOCK_REST_WORDS: usize = 13;
+pub const BLOCK_REST: usize = 116;
+
+pub const BLOCK_REST_WORDS: usize = 12;
 
 pub const RECORDS: usize = 128;
 

@@ -58,13 +58,11 @@ by-step-known t m (kind.Deliver l) = allowed-known (mayDeliver t l) (action.Deli
 by-step-known t m (kind.SetLine l v) = refl
 by-step-known t m kind.NotAStep = refl
 
-pub after-answer : (x : Answer) (a : Action) (t m : List ℕ) → after x a t m .answer ≡ x
+pub after-answer : (s : List ℕ) (x : Answer) (a : Action) (t m : List ℕ) → after s x a t m .answer ≡ x
 unfolding after
-after-answer Done a t m = refl
-after-answer (Interrupt l) a t m = refl
-after-answer (Refused n) a t m = refl
+after-answer s x a t m = refl
 
 -- on sound tables
 pub taken-known : (t m s : List ℕ) → known (taken t m s .answer) ≡ true
 unfolding taken decided
-taken-known t m s = rw (after-answer (answerOf (decided t m s)) (decided t m s) t m) (by-step-known t m (stepOf (coresOf t) s))
+taken-known t m s = rw (after-answer s (answerOf (decided t m s)) (decided t m s) t m) (by-step-known t m (stepOf (coresOf t) s))

@@ -9,11 +9,11 @@ use lib.Dec.{eqb}
 use native.Mathlib.Omega.{arith}
 use Rattle.word.specs.Word.{if_then_else_}
 use Rattle.steps.specs.declared.Answer.{Answer}
-use Rattle.steps.specs.declared.Answer.the-variants.{Done, Interrupt, Refused}
 use Rattle.machine.specs.declared.run.Stop.{Stop}
 use Rattle.machine.specs.declared.run.Stop.the-variants as stop
 use Rattle.machine.specs.Step.{isAccepted, Stepped, step}
 use Rattle.machine.specs.Run.{Result, stopsWith, stopOf, runFrom}
+use Rattle.machine.proofs.Taking.{by-test, by-refused}
 
 -- the tables and the memory after the first k steps of a schedule, each a single step
 pub tablesBy : ℕ → List ℕ → List ℕ → List ℕ → List ℕ
@@ -69,9 +69,9 @@ module _ (s t m : List ℕ) (n : ℕ) where
   by-answer : (a : Answer) {r : Result} → Counts (drop 6 s) (next .tables) (next .memory) (n + 1) r →
       Counts s t m n (if isAccepted a then r else stopsWith n (stopOf a) (next .tables) (next .memory))
   unfolding tablesBy memoryBy
-  by-answer (Refused x) C = record { done = 0; count = omega arith; same-tables = refl; same-memory = refl }
-  by-answer Done C = one-more C
-  by-answer (Interrupt l) C = one-more C
+  by-answer a {r} C =
+      by-test (Counts s t m n) (isAccepted a) r _ (λ _. one-more C)
+      (by-refused (λ (x : Answer). Counts s t m n (stopsWith n (stopOf x) (next .tables) (next .memory))) (λ x. record { done = 0; count = omega arith; same-tables = refl; same-memory = refl }) a)
 
   by-limit : (b : Bool) {r : Result} → Counts s t m n r → Counts s t m n (if b then stopsWith n stop.Limit t m else r)
   by-limit true C = ended stop.Limit refl

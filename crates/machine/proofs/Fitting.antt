@@ -16,6 +16,8 @@ use Rattle.tables.specs.Sound.{sound}
 use Rattle.tables.proofs.Parts.{records-of}
 use Rattle.tables.proofs.Steps.{block-linked}
 use Rattle.tables.proofs.Lift.{header, core-fits, core-sound, bytes-divide}
+use Rattle.steps.specs.Form.{word, countAt}
+use Rattle.steps.proofs.Whose.{by-count}
 use Rattle.apic.specs.declared.active.Ipi.{Ipi}
 use Rattle.cores.specs.declared.Plan.{Plan}
 use Rattle.cores.specs.inner.Ready.{ready, fits}
@@ -27,6 +29,10 @@ use Rattle.word.proofs.Truth.{and-left, and-right}
 module _ (t : List ℕ) (n : ℕ) (e : sound t n ≡ true) where
   pub header-words : 32 ≤ length t
   header-words = omega (arith, header t n e .long)
+
+  -- the word that counts a refusal is there
+  pub count-there : (s : List ℕ) → countAt (coresOf t) s < length t
+  count-there s = by-count (λ (i : ℕ). i < length t) (coresOf t) s (omega (arith, header-words)) (λ h. omega (arith, core-fits t n e (word s 1) h))
 
   pub quarters : n % 4 ≡ 0
   quarters = omega (arith, bytes-divide t n e)

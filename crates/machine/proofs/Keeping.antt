@@ -9,19 +9,21 @@ use lib.ListN.{length, getD, set, length-set}
 use lib.Seq.{getD-set-other}
 use lib.Dec.{eqb, ltb}
 use native.Mathlib.Omega.{arith}
+use native.Mathlib.Decide.{ℕ-discrete}
 use Rattle.word.specs.Word.{if_then_else_, withBit}
 use Rattle.word.proofs.Bytes.{Bytes}
 use Rattle.word.proofs.Words.{Words}
 use Rattle.word.proofs.Tests.{true-false}
 use Rattle.layout.specs.Layout as at
 use Rattle.layout.specs.Blocks.{block}
-use Rattle.layout.proofs.Blocks.{with-long, with-header}
+use Rattle.layout.proofs.Blocks.{with-long, with-block, with-other, with-header, set-block}
+use Rattle.records.proofs.Counts.{either}
 use Rattle.records.proofs.Frame.{Alike, same-sound}
-use Rattle.tables.specs.Views.{coresOf, linesOf, refusalsOf}
+use Rattle.tables.specs.Views.{coresOf, linesOf, refusalsOf, ownRefusalsOf}
 use Rattle.tables.specs.Sound.{soundBlock, sound}
 use Rattle.tables.proofs.Parts.{words-of, records-of, of-parts}
 use Rattle.tables.proofs.Places.{words-facts, facts-words}
-use Rattle.tables.proofs.Lift.{header, core-fits, core-long, core-sound, with-sound, set-header-sound, set-lines-sound}
+use Rattle.tables.proofs.Lift.{header, core-fits, core-long, core-sound, with-sound, set-header-sound, set-count-sound, set-lines-sound}
 use Rattle.apic.specs.declared.active.Ipi.{Ipi}
 use Rattle.apic.specs.LocalApic.{idOf, fixed, irr}
 use Rattle.apic.specs.Active.{idle, receivedBy, eoiSent, initCore, startCore}
@@ -32,15 +34,18 @@ use Rattle.ioapic.specs.IoApic.{entry, withEntry, dest, vect, rirr, ds, onEntri
 use Rattle.ioapic.specs.Bus.{broadcast, sendIpi, sendEoi, deliver}
 use Rattle.steps.specs.declared.Answer.{Answer}
 use Rattle.steps.specs.declared.Answer.the-variants as answer
+use Rattle.steps.specs.Form.{word, countAt}
+use Rattle.steps.proofs.Whose.{by-count}
 use Rattle.cores.specs.declared.Plan.{Plan}
 use Rattle.cores.specs.Commit as cores
 use Rattle.cores.proofs.Decisions.{MayBeDone}
-use Rattle.cores.proofs.Locals.{tables-long, tables-local, written-long, plan-long, plan-sound}
+use Rattle.cores.proofs.Locals.{tables-long, tables-own, tables-other, tables-local, written-long, plan-long, plan-count, plan-sound}
 use Rattle.machine.specs.declared.action.Action.{Action}
 use Rattle.machine.specs.declared.action.Action.the-variants.{Refused, Planned, SendIpi, SendEoi, InitCore, StartCore, Sample, Deliver, SetLine}
 use Rattle.machine.specs.Actions.{lineSet, answerOf, tablesAfter, memoryAfter}
 use Rattle.machine.specs.Decide.{decided}
-use Rattle.machine.specs.Step.{counted, after, taken, step}
+use Rattle.machine.specs.Step.{isAccepted, oneMore, counted, after, taken, step}
+use Rattle.machine.proofs.Taking.{by-test}
 use Rattle.machine.proofs.Deciding.{Able, decided-able}
 
 -- ---- what keeps tables sound
@@ -51,15 +56,23 @@ pub record Stays (n : ℕ) (t u : List ℕ) : Type 0 where
   pub cores : coresOf u ≡ coresOf t
   pub is-sound : sound u n ≡ true
 
--- and the same count of refusals
+-- and the same counts of refusals
 pub record Keeps (n : ℕ) (t u : List ℕ) : Type 0 where
   pub long : length u ≡ length t
   pub cores : coresOf u ≡ coresOf t
   pub count : refusalsOf u ≡ refusalsOf t
+  pub own-counts : (k : ℕ) → k < coresOf t → ownRefusalsOf (block u k) ≡ ownRefusalsOf (block t k)
   pub is-sound : sound u n ≡ true
 
 keeps-then : {n : ℕ} {t u v : List ℕ} → Keeps n t u → Keeps n u v → Keeps n t v
-keeps-then p q = record { long = q .long ∙ p .long; cores = q .cores ∙ p .cores; count = q .count ∙ p .count; is-sound = q .is-sound }
+keeps-then p q =
+    record {
+      long = q .long ∙ p .long;
+      cores = q .cores ∙ p .cores;
+      count = q .count ∙ p .count;
+      own-counts = λ k h. q .own-counts k (omega (arith, p .cores)) ∙ p .own-counts k h;
+      is-sound = q .is-sound;
+    }
 
 keeps-stays : {n : ℕ} {t u : List ℕ} → Keeps n t u → Stays n t u
 keeps-stays K = record { long = K .long; cores = K .cores; is-sound = K .is-sound }
@@ -83,9 +96,10 @@ kept-sound P zero-in heads-in rest-in n b c K e =
     }))
     (same-sound A n ∙ records-of n b e)
 
--- a function that keeps a block's length and leaves it sound, beside a memory of n bytes
+-- a function that keeps a block's length and refusal count and leaves it sound, beside a memory of n bytes
 record BlockKeeps (n : ℕ) (f : List ℕ → List ℕ) : Type 0 where
   pub as-long : (b : List ℕ) → length (f b) ≡ length b
+  pub as-count : (b : List ℕ) → ownRefusalsOf (f b) ≡ ownRefusalsOf b
   pub as-sound : (b : List ℕ) → soundBlock n b ≡ true → soundBlock n (f b) ≡ true
 
 -- a step of the local APIC's own words
@@ -93,6 +107,7 @@ passive : (n : ℕ) (f : List ℕ → List ℕ) → ((b : List ℕ) → Kept Pas
 passive n f K =
     record {
       as-long = λ b. K b .long;
+      as-count = λ b. K b .same at.ownRefusals (inr (omega arith));
       as-sound = λ b. kept-sound Passive (inl (omega arith)) (λ i p q. inl (omega arith)) (λ i p. inr p) n b (f b) (K b);
     }
 
@@ -101,13 +116,14 @@ reset : (n : ℕ) (f : List ℕ → List ℕ) → ((b : List ℕ) → Kept Reset
 reset n f K =
     record {
       as-long = λ b. K b .long;
+      as-count = λ b. K b .same at.ownRefusals (inr (inr (omega arith)));
       as-sound = λ b. kept-sound Reset (inl (omega arith)) (λ i p q. inr (inl (omega arith, omega arith))) (λ i p. inr (inr p)) n b (f b) (K b);
     }
 
 module _ (n : ℕ) where
   -- the tables themselves
   keeps-all : (t : List ℕ) → sound t n ≡ true → Keeps n t t
-  keeps-all t e = record { long = refl; cores = refl; count = refl; is-sound = e }
+  keeps-all t e = record { long = refl; cores = refl; count = refl; own-counts = λ k h. refl; is-sound = e }
 
   -- at the block of one core
   on-block : (f : List ℕ → List ℕ) → BlockKeeps n f → (t : List ℕ) → sound t n ≡ true → (k : ℕ) → k < coresOf t → Keeps n t (onBlock f k t)
@@ -118,6 +134,9 @@ module _ (n : ℕ) where
         long = with-long t k (f (block t k)) fits long;
         cores = with-header t k (f (block t k)) fits long at.cores (omega arith);
         count = with-header t k (f (block t k)) fits long at.refusals (omega arith);
+        own-counts = λ j l. either (ℕ-discrete j k)
+            (λ q. rw q (ap ownRefusalsOf (with-block t k (f (block t k)) fits long) ∙ B .as-count (block t k)))
+            (λ d. ap ownRefusalsOf (with-other t k (f (block t k)) fits long j d (core-fits t n e j l)));
         is-sound = with-sound t n e k (f (block t k)) h long (B .as-sound (block t k) (core-sound t n e k h));
       }
 
@@ -136,6 +155,7 @@ module _ (n : ℕ) where
         long = length-set t (at.redirect + i) v;
         cores = getD-set-other t (at.redirect + i) at.cores v 0 (omega arith);
         count = getD-set-other t (at.redirect + i) at.refusals v 0 (omega arith);
+        own-counts = λ k l. ap ownRefusalsOf (set-block t (at.redirect + i) v k (omega arith));
         is-sound = set-header-sound t n e (at.redirect + i) v (inr (omega arith, omega arith));
       }
 
@@ -192,22 +212,31 @@ module _ (t : List ℕ) (n : ℕ) (e : sound t n ≡ true) where
         long = length-set t at.lines w;
         cores = getD-set-other t at.lines at.cores w 0 (omega arith);
         count = getD-set-other t at.lines at.refusals w 0 (omega arith);
+        own-counts = λ k q. ap ownRefusalsOf (set-block t at.lines w k (omega arith));
         is-sound = set-lines-sound t n e w (put-below 24 (linesOf t) l v (header t n e .few-lines) h hv);
       }
 
-  -- the refusal count
-  pub counted-keeps : Stays n t (counted t)
-  unfolding counted
-  counted-keeps = go (ltb (refusalsOf t) (2 ^ 32 - 1))
+  -- one more in a word that may be any number
+  more-keeps : (i : ℕ) → 0 < i → ((v : ℕ) → sound (set t i v) n ≡ true) → Stays n t (oneMore i t)
+  unfolding oneMore
+  more-keeps i h f = go (ltb (getD t i 0) (2 ^ 32 - 1))
     where
-      go : (b : Bool) → Stays n t (if b then set t at.refusals (refusalsOf t + 1) else t)
+      go : (b : Bool) → Stays n t (if b then set t i (getD t i 0 + 1) else t)
       go true =
           record {
-            long = length-set t at.refusals (refusalsOf t + 1);
-            cores = getD-set-other t at.refusals at.cores (refusalsOf t + 1) 0 (omega arith);
-            is-sound = set-header-sound t n e at.refusals (refusalsOf t + 1) (inl refl);
+            long = length-set t i (getD t i 0 + 1);
+            cores = getD-set-other t i at.cores (getD t i 0 + 1) 0 (omega arith);
+            is-sound = f (getD t i 0 + 1);
           }
       go false = keeps-stays (keeps-all n t e)
+
+  -- the refusal counts
+  pub counted-keeps : (s : List ℕ) → Stays n t (counted s t)
+  unfolding counted
+  counted-keeps s =
+      by-count (λ (i : ℕ). Stays n t (oneMore i t)) (coresOf t) s
+      (more-keeps at.refusals (omega arith) (λ v. set-header-sound t n e at.refusals v (inl refl)))
+      (λ h. more-keeps (at.blockAt (word s 1) + at.ownRefusals) (omega arith) (λ v. set-count-sound t n e (word s 1) v h))
 
 -- ---- memory keeps its length
 
@@ -234,6 +263,9 @@ module _ (t m : List ℕ) (e : sound t (length m) ≡ true) where
         long = tables-long k p t fits long;
         cores = tables-local k p t fits long at.cores (inl (omega arith)) (inl (omega arith));
         count = tables-local k p t fits long at.refusals (inl (omega arith)) (inl (omega arith));
+        own-counts = λ j q. either (ℕ-discrete j k)
+            (λ r. rw r (ap ownRefusalsOf (tables-own k p t fits long) ∙ plan-count t m k p e l D))
+            (λ d. ap ownRefusalsOf (tables-other k p t fits long j d (core-fits t (length m) e j q)));
         is-sound = subst (λ (n : ℕ). sound (cores.tablesByPlan k p t) n ≡ true) (written-long (p .write) m) (plan-sound t m k p e l D);
       }
 
@@ -255,17 +287,13 @@ module _ (t m : List ℕ) (e : sound t (length m) ≡ true) where
 
 -- ---- a step
 
-after-long : (r : Answer) (a : Action) (t m : List ℕ) → length (after r a t m .memory) ≡ length m
+after-long : (s : List ℕ) (r : Answer) (a : Action) (t m : List ℕ) → length (after s r a t m .memory) ≡ length m
 unfolding after
-after-long (answer.Refused n) a t m = refl
-after-long answer.Done a t m = memory-long a m
-after-long (answer.Interrupt l) a t m = memory-long a m
+after-long s r a t m = by-test (λ (n : List ℕ). length n ≡ length m) (isAccepted r) (memoryAfter a m) m (λ _. memory-long a m) (λ _. refl)
 
-after-keeps : (n : ℕ) (r : Answer) (a : Action) (t m : List ℕ) → sound t n ≡ true → Keeps n t (tablesAfter a t) → Stays n t (after r a t m .tables)
+after-keeps : (n : ℕ) (s : List ℕ) (r : Answer) (a : Action) (t m : List ℕ) → sound t n ≡ true → Keeps n t (tablesAfter a t) → Stays n t (after s r a t m .tables)
 unfolding after
-after-keeps n (answer.Refused x) a t m e K = counted-keeps t n e
-after-keeps n answer.Done a t m e K = keeps-stays K
-after-keeps n (answer.Interrupt l) a t m e K = keeps-stays K
+after-keeps n s r a t m e K = by-test (Stays n t) (isAccepted r) (tablesAfter a t) (counted s t) (λ _. keeps-stays K) (λ _. counted-keeps t n e s)
 
 -- memory, whatever the tables are
 pub step-long : (t m s : List ℕ) → length (step t m s .memory) ≡ length m
@@ -273,58 +301,51 @@ unfolding step taken
 step-long t m s = go (sound t (length m))
   where
     go : (b : Bool) → length ((if b then taken t m s else record { answer = answer.Refused 4; tables = t; memory = m }) .memory) ≡ length m
-    go true = after-long (answerOf (decided t m s)) (decided t m s) t m
+    go true = after-long s (answerOf (decided t m s)) (decided t m s) t m
     go false = refl
 
 pub step-keeps : (t m s : List ℕ) → sound t (length m) ≡ true → Words t → Bytes m → Stays (length m) t (step t m s .tables)
 unfolding step taken
 step-keeps t m s e ws bs =
-    rw e (after-keeps (length m) (answerOf (decided t m s)) (decided t m s) t m e (decided-keeps t m e ws bs s))
+    rw e (after-keeps (length m) s (answerOf (decided t m s)) (decided t m s) t m e (decided-keeps t m e ws bs s))
 
 pub step-sound : (t m s : List ℕ) → sound t (length m) ≡ true → Words t → Bytes m → sound (step t m s .tables) (length (step t m s .memory)) ≡ true
 step-sound t m s e ws bs = ap (sound (step t m s .tables)) (step-long t m s) ∙ step-keeps t m s e ws bs .is-sound
 
 -- ---- a refused step
 
--- u is t but for the refusal count
-pub record CountOnly (t u : List ℕ) : Type 0 where
+-- u is t but for the count of the words s
+pub record CountOnly (s t u : List ℕ) : Type 0 where
   pub long : length u ≡ length t
-  pub same : (i : ℕ) → (i ≡ at.refusals → ⊥) → getD u i 0 ≡ getD t i 0
+  pub same : (i : ℕ) → (i ≡ countAt (coresOf t) s → ⊥) → getD u i 0 ≡ getD t i 0
 
-pub counted-only : (t : List ℕ) → CountOnly t (counted t)
-unfolding counted
-counted-only t = go (ltb (refusalsOf t) (2 ^ 32 - 1))
+pub counted-only : (s t : List ℕ) → CountOnly s t (counted s t)
+unfolding counted oneMore
+counted-only s t = go (ltb (getD t (countAt (coresOf t) s) 0) (2 ^ 32 - 1))
   where
-    go : (b : Bool) → CountOnly t (if b then set t at.refusals (refusalsOf t + 1) else t)
+    go : (b : Bool) → CountOnly s t (if b then set t (countAt (coresOf t) s) (getD t (countAt (coresOf t) s) 0 + 1) else t)
     go true =
         record {
-          long = length-set t at.refusals (refusalsOf t + 1);
-          same = λ i d. getD-set-other t at.refusals i (refusalsOf t + 1) 0 d;
+          long = length-set t (countAt (coresOf t) s) (getD t (countAt (coresOf t) s) 0 + 1);
+          same = λ i d. getD-set-other t (countAt (coresOf t) s) i (getD t (countAt (coresOf t) s) 0 + 1) 0 d;
         }
     go false = record { long = refl; same = λ i d. refl }
 
-abbrev isRefused : Answer → Bool
-isRefused answer.Done = false
-isRefused (answer.Interrupt l) = false
-isRefused (answer.Refused n) = true
-
-after-refused : (r : Answer) (a : Action) (t m : List ℕ) (n : ℕ) → after r a t m .answer ≡ answer.Refused n → (after r a t m .memory ≡ m) × CountOnly t (after r a t m .tables)
+after-refused : (s : List ℕ) (r : Answer) (a : Action) (t m : List ℕ) (n : ℕ) → after s r a t m .answer ≡ answer.Refused n → (after s r a t m .memory ≡ m) × CountOnly s t (after s r a t m .tables)
 unfolding after
-after-refused (answer.Refused x) a t m n e = (refl, counted-only t)
-after-refused answer.Done a t m n e = absurd (true-false (sym (ap isRefused e)))
-after-refused (answer.Interrupt l) a t m n e = absurd (true-false (sym (ap isRefused e)))
+after-refused s r a t m n e = rw e (refl, counted-only s t)
 
 -- memory stays, and the tables but for the count, on sound tables and on others
-pub refused-count : (t m s : List ℕ) (n : ℕ) → step t m s .answer ≡ answer.Refused n → (step t m s .memory ≡ m) × CountOnly t (step t m s .tables)
+pub refused-count : (t m s : List ℕ) (n : ℕ) → step t m s .answer ≡ answer.Refused n → (step t m s .memory ≡ m) × CountOnly s t (step t m s .tables)
 unfolding step taken
 refused-count t m s n = go (sound t (length m))
   where
     go : (b : Bool) →
         (if b then taken t m s else record { answer = answer.Refused 4; tables = t; memory = m }) .answer ≡ answer.Refused n →
-        ((if b then taken t m s else record { answer = answer.Refused 4; tables = t; memory = m }) .memory ≡ m) × CountOnly t ((if b then taken t m s else record { answer = answer.Refused 4; tables = t; memory = m }) .tables)
-    go true e = after-refused (answerOf (decided t m s)) (decided t m s) t m n e
+        ((if b then taken t m s else record { answer = answer.Refused 4; tables = t; memory = m }) .memory ≡ m) × CountOnly s t ((if b then taken t m s else record { answer = answer.Refused 4; tables = t; memory = m }) .tables)
+    go true e = after-refused s (answerOf (decided t m s)) (decided t m s) t m n e
     go false e = (refl, record { long = refl; same = λ i d. refl })
 
 pub refused-leaves : (t m s : List ℕ) (n : ℕ) → step t m s .answer ≡ answer.Refused n →
-    (step t m s .memory ≡ m) × ((i : ℕ) → (i ≡ at.refusals → ⊥) → getD (step t m s .tables) i 0 ≡ getD t i 0)
+    (step t m s .memory ≡ m) × ((i : ℕ) → (i ≡ countAt (coresOf t) s → ⊥) → getD (step t m s .tables) i 0 ≡ getD t i 0)
 refused-leaves t m s n e = let R = refused-count t m s n e in (R .0, R .1 .same)

@@ -4,7 +4,7 @@
 -- IOREGSEL reads the redirect entry that it selects.)
 -- Assumes nothing.
 use mathlib.Core.Path.{_≡_, refl, sym, ap, subst, _∙_}
-use mathlib.Core.Logic.{_⊎_, inl, _≢_}
+use mathlib.Core.Logic.{_⊎_, inl, _≢_, ⊎-elim}
 use mathlib.Core.Bool.{Bool, true, false, _&&_}
 use mathlib.Core.List.{List}
 use Prim.Native.Nat.{ℕ, suc, _+_, _-_, _*_, _^_, _<_, _≤_}
@@ -18,17 +18,18 @@ use Rattle.word.proofs.Tests.{true-false}
 use Rattle.word.proofs.Truth.{and-left}
 use Rattle.layout.specs.Layout as at
 use Rattle.layout.specs.Blocks.{block}
-use Rattle.layout.proofs.Blocks.{set-block}
+use Rattle.layout.proofs.Blocks.{block-at, set-block, set-own-block, set-own-other}
 use Rattle.records.specs.declared.Walk.{Walk}
 use Rattle.records.specs.Records.{stores, walks}
-use Rattle.tables.specs.Views.{coresOf, refusalsOf}
+use Rattle.tables.specs.Views.{coresOf}
 use Rattle.tables.specs.Sound.{sound}
 use Rattle.tables.proofs.Lift.{core-fits, core-sound}
 use Rattle.steps.specs.declared.Answer.{Answer}
 use Rattle.steps.specs.declared.Answer.the-variants as answer
 use Rattle.steps.specs.declared.Step.{Step}
 use Rattle.steps.specs.declared.Step.the-variants as kind
-use Rattle.steps.specs.Form.{stepOf, orNot, stepOfCore, stepOfLine, word, zero2, zero3, zero4, zero5, lineCount}
+use Rattle.steps.specs.Form.{stepOf, orNot, stepOfCore, stepOfLine, word, zero2, zero3, zero4, zero5, lineCount, namesCore, countAt}
+use Rattle.steps.proofs.Whose.{by-count}
 use Rattle.tlb.specs.Steps.{createOn, extendOn, accessedOn}
 use Rattle.cores.specs.Core as core
 use Rattle.cores.specs.TlbSteps.{planned}
@@ -43,8 +44,9 @@ use Rattle.cores.proofs.Locals.{Run, plan-long, plan-sound, plan-memory, tables
 use Rattle.machine.specs.declared.action.Action.the-variants.{Refused, Planned}
 use Rattle.machine.specs.Actions.{answerOf, tablesAfter, memoryAfter}
 use Rattle.machine.specs.Decide.{byStep, decided}
-use Rattle.machine.specs.Step.{Stepped, counted, after, taken, step}
+use Rattle.machine.specs.Step.{Stepped, isAccepted, oneMore, counted, after, taken, step}
 use Rattle.machine.proofs.Keeping.{counted-keeps, counted-only}
+use Rattle.machine.proofs.Taking.{by-test, by-refused}
 use Rattle.machine.proofs.Fitting.{quarters}
 
 -- a step of kind 0 to 4 of core k, or words that are no step
@@ -79,11 +81,6 @@ form-same n s h =
     else kind.NotAStep)
     else kind.NotAStep) (lt-ltb (word s 1) n h ∙ sym (lt-ltb (word s 1) (suc (word s 1)) (omega arith)))
 
--- a property of both branches
-by-test : (P : Step → Type 0) (t : Bool) (x y : Step) → (t ≡ true → P x) → (t ≡ false → P y) → P (if t then x else y)
-by-test P true x y f g = f refl
-by-test P false x y f g = g refl
-
 or-not : (k : ℕ) (t : Bool) (x : Step) → (t ≡ true → Plain k x) → Plain k (orNot t x)
 or-not k t x f = by-test (Plain k) t x kind.NotAStep f (λ _. none)
 
@@ -109,10 +106,18 @@ plain-form s h =
 
 -- ---- what a step does
 
--- what the plan p of core k makes of t and m is r
-pub record Law (t m : List ℕ) (k : ℕ) (p : Plan) (r : Stepped) : Type 0 where
+-- a core's block after its step: as the plan says, and where it is refused with one refusal more, if the words name the core
+abbrev pub ownAfter : Bool → Plan → Answer → List ℕ → List ℕ
+ownAfter c p r b = if isAccepted r then commit.blockAfter p b else if c then oneMore at.ownRefusals b else b
+
+-- whether they do, which the number of cores does not change where the core is there
+abbrev pub isCounted : List ℕ → Bool
+isCounted s = namesCore (suc (word s 1)) s
+
+-- what the plan p of core k makes of t and m is r, where c says whether a refusal is the core's
+pub record Law (t m : List ℕ) (k : ℕ) (c : Bool) (p : Plan) (r : Stepped) : Type 0 where
   pub answers : r .answer ≡ p .answer
-  pub own : block (r .tables) k ≡ commit.blockAfter p (block t k)
+  pub own : block (r .tables) k ≡ ownAfter c p (p .answer) (block t k)
   pub others : (j : ℕ) → j ≢ k → j < coresOf t → block (r .tables) j ≡ block t j
   pub words : (i : ℕ) → i ≢ at.refusals → (i < at.ioregsel) ⊎ (29 < i) → (i < 32 + 256 * k) ⊎ (32 + 256 * k + 256 ≤ i) → getD (r .tables) i 0 ≡ getD t i 0
   pub bytes : r .memory ≡ commit.memoryByPlan p m
@@ -120,40 +125,89 @@ pub record Law (t m : List ℕ) (k : ℕ) (p : Plan) (r : Stepped) : Type 0 wher
   pub cores : coresOf (r .tables) ≡ coresOf t
   pub is-sound : sound (r .tables) (length (r .memory)) ≡ true
 
-counted-block : (t : List ℕ) (j : ℕ) → block (counted t) j ≡ block t j
-unfolding counted
-counted-block t j = go (ltb (refusalsOf t) (2 ^ 32 - 1))
+-- one more in the header
+header-more : (t : List ℕ) (j : ℕ) → block (oneMore at.refusals t) j ≡ block t j
+unfolding oneMore
+header-more t j = go (ltb (getD t at.refusals 0) (2 ^ 32 - 1))
   where
-    go : (b : Bool) → block (if b then set t at.refusals (refusalsOf t + 1) else t) j ≡ block t j
-    go true = set-block t at.refusals (refusalsOf t + 1) j (omega arith)
+    go : (b : Bool) → block (if b then set t at.refusals (getD t at.refusals 0 + 1) else t) j ≡ block t j
+    go true = set-block t at.refusals (getD t at.refusals 0 + 1) j (omega arith)
     go false = refl
 
-module _ (t m : List ℕ) (e : sound t (length m) ≡ true) (k : ℕ) (h : k < coresOf t) where
-  refused-law : (n : ℕ) → Law t m k (refused n) (record { answer = answer.Refused n; tables = counted t; memory = m })
-  unfolding commit.blockAfter commit.portAfter commit.walksAfter commit.bufferAfter commit.coreAfter commit.writtenTo
+-- one more in the block of core k
+module _ (t : List ℕ) (k : ℕ) (fits : 32 + 256 * k + 256 ≤ length t) where
+  own-more : block (oneMore (at.blockAt k + at.ownRefusals) t) k ≡ oneMore at.ownRefusals (block t k)
+  unfolding oneMore
+  own-more = rw (block-at t k at.ownRefusals (omega arith)) (go (getD t (at.blockAt k + at.ownRefusals) 0) (ltb (getD t (at.blockAt k + at.ownRefusals) 0) (2 ^ 32 - 1)))
+    where
+      go : (v : ℕ) (b : Bool) → block (if b then set t (at.blockAt k + at.ownRefusals) (v + 1) else t) k ≡ (if b then set (block t k) at.ownRefusals (v + 1) else block t k)
+      go v true = set-own-block t k at.ownRefusals (v + 1) fits (omega arith)
+      go v false = refl
+
+  other-more : (j : ℕ) → j ≢ k → 32 + 256 * j + 256 ≤ length t → block (oneMore (at.blockAt k + at.ownRefusals) t) j ≡ block t j
+  unfolding oneMore
+  other-more j d q = go (getD t (at.blockAt k + at.ownRefusals) 0) (ltb (getD t (at.blockAt k + at.ownRefusals) 0) (2 ^ 32 - 1))
+    where
+      go : (v : ℕ) (b : Bool) → block (if b then set t (at.blockAt k + at.ownRefusals) (v + 1) else t) j ≡ block t j
+      go v true = set-own-other t k at.ownRefusals (v + 1) fits (omega arith) j d q
+      go v false = refl
+
+-- the count of a step of core k = word s 1
+module _ (t m : List ℕ) (e : sound t (length m) ≡ true) (s : List ℕ) (h : word s 1 < coresOf t) where
+  counted-is : counted s t ≡ oneMore (if isCounted s then at.blockAt (word s 1) + at.ownRefusals else at.refusals) t
+  unfolding counted countAt
+  counted-is = ap (λ (b : Bool). oneMore (if eqb (length s) 6 && (ltb (word s 0) 9 && b) then at.blockAt (word s 1) + at.ownRefusals else at.refusals) t) (lt-ltb (word s 1) (coresOf t) h ∙ sym (lt-ltb (word s 1) (suc (word s 1)) (omega arith)))
+
+  counted-own : block (counted s t) (word s 1) ≡ (if isCounted s then oneMore at.ownRefusals (block t (word s 1)) else block t (word s 1))
+  counted-own = ap (λ (u : List ℕ). block u (word s 1)) counted-is ∙ go (isCounted s)
+    where
+      go : (c : Bool) → block (oneMore (if c then at.blockAt (word s 1) + at.ownRefusals else at.refusals) t) (word s 1) ≡ (if c then oneMore at.ownRefusals (block t (word s 1)) else block t (word s 1))
+      go true = own-more t (word s 1) (core-fits t (length m) e (word s 1) h)
+      go false = header-more t (word s 1)
+
+  counted-other : (j : ℕ) → j ≢ word s 1 → j < coresOf t → block (counted s t) j ≡ block t j
+  counted-other j d q = ap (λ (u : List ℕ). block u j) counted-is ∙ go (isCounted s)
+    where
+      go : (c : Bool) → block (oneMore (if c then at.blockAt (word s 1) + at.ownRefusals else at.refusals) t) j ≡ block t j
+      go true = other-more t (word s 1) (core-fits t (length m) e (word s 1) h) j d (core-fits t (length m) e j q)
+      go false = header-more t j
+
+  counted-outside : (i : ℕ) → i ≢ at.refusals → (i < 32 + 256 * word s 1) ⊎ (32 + 256 * word s 1 + 256 ≤ i) → getD (counted s t) i 0 ≡ getD t i 0
+  counted-outside i d o =
+      counted-only s t .same i (by-count (λ (j : ℕ). i ≡ j → ⊥) (coresOf t) s d (λ _ q. ⊎-elim (λ r. omega arith) (λ r. omega arith) o))
+
+module _ (t m : List ℕ) (e : sound t (length m) ≡ true) (s : List ℕ) (h : word s 1 < coresOf t) where
+  abbrev k : ℕ
+  k = word s 1
+
+  abbrev c : Bool
+  c = isCounted s
+
+  refused-law : (n : ℕ) → Law t m k c (refused n) (record { answer = answer.Refused n; tables = counted s t; memory = m })
+  unfolding commit.writtenTo
   refused-law n =
       record {
         answers = refl;
-        own = counted-block t k;
-        others = λ j d q. counted-block t j;
-        words = λ i d o q. counted-only t .same i d;
+        own = counted-own t m e s h;
+        others = counted-other t m e s h;
+        words = λ i d o q. counted-outside t m e s h i d q;
         bytes = refl;
         run = inl refl;
-        cores = counted-keeps t (length m) e .cores;
-        is-sound = counted-keeps t (length m) e .is-sound;
+        cores = counted-keeps t (length m) e s .cores;
+        is-sound = counted-keeps t (length m) e s .is-sound;
       }
 
-  plan-law : (p : Plan) → MayBeDone (length m) (block t k) p → Law t m k p (after (p .answer) (Planned k p) t m)
+  plan-law : (p : Plan) → MayBeDone (length m) (block t k) p → Law t m k c p (after s (p .answer) (Planned k p) t m)
   unfolding after tablesAfter memoryAfter
-  plan-law p D = go (p .answer) refl
+  plan-law p D = go (isAccepted (p .answer)) refl
     where
-      done : Law t m k p (record { answer = p .answer; tables = commit.tablesByPlan k p t; memory = commit.memoryByPlan p m })
-      done =
+      done : block (commit.tablesByPlan k p t) k ≡ ownAfter c p (p .answer) (block t k) → Law t m k c p (record { answer = p .answer; tables = commit.tablesByPlan k p t; memory = commit.memoryByPlan p m })
+      done q =
           let fits = core-fits t (length m) e k h in
           let long = plan-long t m k p e h D in
           record {
             answers = refl;
-            own = tables-own k p t fits long;
+            own = q;
             others = λ j d q. tables-other k p t fits long j d (core-fits t (length m) e j q);
             words = λ i d. tables-local k p t fits long i;
             bytes = refl;
@@ -162,10 +216,16 @@ module _ (t m : List ℕ) (e : sound t (length m) ≡ true) (k : ℕ) (h : k < c
             is-sound = plan-sound t m k p e h D;
           }
 
-      go : (a : Answer) → p .answer ≡ a → Law t m k p (after a (Planned k p) t m)
-      go answer.Done q = subst (λ (a : Answer). Law t m k p (record { answer = a; tables = commit.tablesByPlan k p t; memory = commit.memoryByPlan p m })) q done
-      go (answer.Interrupt l) q = subst (λ (a : Answer). Law t m k p (record { answer = a; tables = commit.tablesByPlan k p t; memory = commit.memoryByPlan p m })) q done
-      go (answer.Refused n) q = subst (λ (x : Plan). Law t m k x (record { answer = answer.Refused n; tables = counted t; memory = m })) (sym (D .is-still n q)) (refused-law n)
+      own : block (commit.tablesByPlan k p t) k ≡ commit.blockAfter p (block t k)
+      own = tables-own k p t (core-fits t (length m) e k h) (plan-long t m k p e h D)
+
+      go : (b : Bool) → isAccepted (p .answer) ≡ b
+          → Law t m k c p (record { answer = p .answer; tables = if b then commit.tablesByPlan k p t else counted s t; memory = if b then commit.memoryByPlan p m else m })
+      go true q = done (own ∙ ap (λ (b : Bool). if b then commit.blockAfter p (block t k) else if c then oneMore at.ownRefusals (block t k) else block t k) (sym q))
+      go false q =
+          by-refused (λ (a : Answer). p .answer ≡ a → Law t m k c p (record { answer = a; tables = counted s t; memory = m }))
+          (λ n e. subst (λ (x : Plan). Law t m k c x (record { answer = answer.Refused n; tables = counted s t; memory = m })) (sym (D .is-still n e)) (refused-law n))
+          (p .answer) q refl
 
   -- the plan may be done: of the core's block it asks one word, of memory its bytes
   pub plan-done : {x : Step} (o : Plain k x) → Bytes m → getD (block t k) (at.spr + at.pto) 0 < 2 ^ 32 → MayBeDone (length m) (block t k) (planOf o (block t k) (core.ioPortsOf t) m)
@@ -177,7 +237,7 @@ module _ (t m : List ℕ) (e : sound t (length m) ≡ true) (k : ℕ) (h : k < c
   plan-done none b q = may-be-done (refused-doable (length m) (block t k) 5)
 
   taken-law : {x : Step} (o : Plain k x) → Bytes m → getD (block t k) (at.spr + at.pto) 0 < 2 ^ 32
-      → Law t m k (planOf o (block t k) (core.ioPortsOf t) m) (after (answerOf (byStep t m x)) (byStep t m x) t m)
+      → Law t m k c (planOf o (block t k) (core.ioPortsOf t) m) (after s (answerOf (byStep t m x)) (byStep t m x) t m)
   unfolding byStep
   taken-law (runs v w) b q = plan-law _ (plan-done (runs v w) b q)
   taken-law (create va l) b q = plan-law _ (plan-done (create va l) b q)
@@ -187,7 +247,7 @@ module _ (t m : List ℕ) (e : sound t (length m) ≡ true) (k : ℕ) (h : k < c
   taken-law none b q = unfold after in refused-law 5
 
 pub step-law : (t m s : List ℕ) → sound t (length m) ≡ true → Bytes m → word s 1 < coresOf t → getD (block t (word s 1)) (at.spr + at.pto) 0 < 2 ^ 32
-    → (o : Plain (word s 1) (formOf s)) → Law t m (word s 1) (planOf o (block t (word s 1)) (core.ioPortsOf t) m) (step t m s)
+    → (o : Plain (word s 1) (formOf s)) → Law t m (word s 1) (isCounted s) (planOf o (block t (word s 1)) (core.ioPortsOf t) m) (step t m s)
 unfolding step taken decided
 step-law t m s e b h q o =
-    rw (e, form-same (coresOf t) s h) (taken-law t m e (word s 1) h o b q)
+    rw (e, form-same (coresOf t) s h) (taken-law t m e s h o b q)

@@ -4,7 +4,7 @@ use mathlib.Core.Path.{_≡_, refl}
 use mathlib.Core.Bool.{Bool, true, false}
 use mathlib.Core.List.{List}
 use Prim.Native.Nat.{ℕ, _+_, _-_, _^_}
-use lib.ListN.{length, set}
+use lib.ListN.{length, getD, set}
 use lib.Dec.{ltb}
 use native.Mathlib.Omega.{arith}
 use borrow.Author.Tests.{ltb-true}
@@ -12,7 +12,7 @@ use Rattle.word.specs.Word.{if_then_else_, withBit}
 use Rattle.word.proofs.Bytes.{Bytes}
 use Rattle.word.proofs.Words.{Words, set-below}
 use Rattle.layout.specs.Layout as at
-use Rattle.tables.specs.Views.{coresOf, linesOf, refusalsOf}
+use Rattle.tables.specs.Views.{coresOf, linesOf}
 use Rattle.tables.specs.Sound.{sound}
 use Rattle.tables.proofs.Lift.{header}
 use Rattle.apic.specs.Active.{initCore, startCore}
@@ -23,13 +23,15 @@ use Rattle.ioapic.proofs.Header.{kept-sampled}
 use Rattle.ioapic.proofs.Steps.{ipi-words, eoi-words, deliver-words}
 use Rattle.steps.specs.declared.Answer.{Answer}
 use Rattle.steps.specs.declared.Answer.the-variants as answer
+use Rattle.steps.specs.Form.{countAt}
 use Rattle.cores.proofs.Locals.{plan-words, written-bytes}
 use Rattle.machine.specs.declared.action.Action.{Action}
 use Rattle.machine.specs.declared.action.Action.the-variants.{Refused, Planned, SendIpi, SendEoi, InitCore, StartCore, Sample, Deliver, SetLine}
 use Rattle.machine.specs.Actions.{answerOf, tablesAfter, memoryAfter}
 use Rattle.machine.specs.Decide.{decided}
-use Rattle.machine.specs.Step.{counted, after, taken, step}
+use Rattle.machine.specs.Step.{isAccepted, oneMore, counted, after, taken, step}
 use Rattle.machine.proofs.Deciding.{Able, decided-able}
+use Rattle.machine.proofs.Taking.{by-test}
 
 -- ---- words
 
@@ -45,26 +47,24 @@ action-words t m e (Sample l) A w = kept-sampled t l A .words w
 action-words t m e (Deliver l) A w = deliver-words (coresOf t) t (header t (length m) e .long) l A w
 action-words t m e (SetLine l v) A w = set-below t at.lines (withBit (linesOf t) l v) w (put-below 32 (linesOf t) l v (w at.lines) (omega arith) (A .1))
 
-counted-words : (t : List ℕ) → Words t → Words (counted t)
-unfolding counted
-counted-words t w = go (ltb (refusalsOf t) (2 ^ 32 - 1)) refl
+more-words : (i : ℕ) (t : List ℕ) → Words t → Words (oneMore i t)
+unfolding oneMore
+more-words i t w = go (ltb (getD t i 0) (2 ^ 32 - 1)) refl
   where
-    go : (b : Bool) → ltb (refusalsOf t) (2 ^ 32 - 1) ≡ b → Words (if b then set t at.refusals (refusalsOf t + 1) else t)
-    go true q = set-below t at.refusals (refusalsOf t + 1) w (omega (arith, ltb-true (refusalsOf t) (2 ^ 32 - 1) q))
+    go : (b : Bool) → ltb (getD t i 0) (2 ^ 32 - 1) ≡ b → Words (if b then set t i (getD t i 0 + 1) else t)
+    go true q = set-below t i (getD t i 0 + 1) w (omega (arith, ltb-true (getD t i 0) (2 ^ 32 - 1) q))
     go false q = w
 
-after-words : (r : Answer) (a : Action) (t m : List ℕ) → Words t → Words (tablesAfter a t) → Words (after r a t m .tables)
-unfolding after
-after-words (answer.Refused n) a t m w v = counted-words t w
-after-words answer.Done a t m w v = v
-after-words (answer.Interrupt l) a t m w v = v
+after-words : (s : List ℕ) (r : Answer) (a : Action) (t m : List ℕ) → Words t → Words (tablesAfter a t) → Words (after s r a t m .tables)
+unfolding after counted
+after-words s r a t m w v = by-test (λ (u : List ℕ). Words u) (isAccepted r) (tablesAfter a t) _ (λ _. v) (λ _. more-words (countAt (coresOf t) s) t w)
 
 pub step-words : (t m s : List ℕ) → Words t → Bytes m → Words (step t m s .tables)
 unfolding step taken
 step-words t m s w b = go (sound t (length m)) refl
   where
     go : (x : Bool) → sound t (length m) ≡ x → Words ((if x then taken t m s else record { answer = answer.Refused 4; tables = t; memory = m }) .tables)
-    go true e = after-words (answerOf (decided t m s)) (decided t m s) t m w (action-words t m e (decided t m s) (decided-able t m e w b s) w)
+    go true e = after-words s (answerOf (decided t m s)) (decided t m s) t m w (action-words t m e (decided t m s) (decided-able t m e w b s) w)
     go false e = w
 
 -- ---- bytes
@@ -81,16 +81,14 @@ action-bytes (Sample l) m b = b
 action-bytes (Deliver l) m b = b
 action-bytes (SetLine l v) m b = b
 
-after-bytes : (r : Answer) (a : Action) (t m : List ℕ) → Bytes m → Bytes (after r a t m .memory)
+after-bytes : (s : List ℕ) (r : Answer) (a : Action) (t m : List ℕ) → Bytes m → Bytes (after s r a t m .memory)
 unfolding after
-after-bytes (answer.Refused n) a t m b = b
-after-bytes answer.Done a t m b = action-bytes a m b
-after-bytes (answer.Interrupt l) a t m b = action-bytes a m b
+after-bytes s r a t m b = by-test (λ (n : List ℕ). Bytes n) (isAccepted r) (memoryAfter a m) m (λ _. action-bytes a m b) (λ _. b)
 
 pub step-bytes : (t m s : List ℕ) → Bytes m → Bytes (step t m s .memory)
 unfolding step taken
 step-bytes t m s b = go (sound t (length m))
   where
     go : (x : Bool) → Bytes ((if x then taken t m s else record { answer = answer.Refused 4; tables = t; memory = m }) .memory)
-    go true = after-bytes (answerOf (decided t m s)) (decided t m s) t m b
+    go true = after-bytes s (answerOf (decided t m s)) (decided t m s) t m b
     go false = b

@@ -2,3 +2,4 @@
 -- Assumes nothing.
 pub mod Split
 pub mod Doable
+pub mod Tried

@@ -8,17 +8,19 @@ use steps::Answer;
 use steps::Step;
 ghost use mathlib.Core.Path.{_≡_};
 ghost use mathlib.Core.Bool.{true, false};
-ghost use Prim.Native.Nat.{_≤_};
+ghost use Prim.Native.Nat.{_≤_, _<_};
 ghost use lib.ListN.{length};
 ghost use Rattle.tables.specs.Sound.{sound};
 ghost use Rattle.tables.specs.Views.{coresOf};
 ghost use Rattle.steps.specs.Answers.{answerNumber};
-ghost use Rattle.machine.specs.Decide.{byStep};
-ghost use Rattle.machine.specs.inner.Split as y;
-ghost use Rattle.machine.specs.Step as x;
+ghost use Rattle.steps.specs.Form.{countAt};
+ghost use Rattle.machine.specs.Decide.{byStep, decided};
+ghost use Rattle.machine.specs.inner.Tried.{tried};
+ghost use Rattle.machine.specs.inner.Split.{formed, isPlanned};
+ghost use Rattle.machine.specs.Step as operation;
 
 pub(crate) fn is_accepted(a: Answer) -> bool
-    ensures { λ r. ⌜ r ≡ x.isAccepted a ⌝ }
+    ensures { λ r. ⌜ r ≡ operation.isAccepted a ⌝ }
 {
     match a {
         Answer::Done => true,
@@ -27,25 +29,27 @@ pub(crate) fn is_accepted(a: Answer) -> bool
     }
 }
 
-// One more refusal; the count stays at its largest.
-fn count(t: &mut [u32])
+// One more refusal of a step of these words, in the word that counts it; a count stays at its largest.
+pub(crate) fn count(t: &mut [u32], s: &[u32])
     requires { ⌜ 32 ≤ length (now t) ⌝ }
-    ensures { λ _. ⌜ now (t .exit) ≡ x.counted (now (t .entry)) ⌝ }
+    requires { ⌜ countAt (coresOf (now t)) (now s) < length (now t) ⌝ }
+    ensures { λ _. ⌜ now (t .exit) ≡ operation.counted (now (s .entry)) (now (t .entry)) ⌝ }
 {
-    let n = t[layout::REFUSALS];
+    let at = steps::count_at(t[layout::CORES], s);
+    let n = t[at];
     if n < 0xFFFF_FFFF {
-        t[layout::REFUSALS] = n + 1;
+        t[at] = n + 1;
     }
 }
 
 // A step of a core, of its TLB or of its store buffer, on sound tables.
 fn by_plan(t: &mut [u32], m: &mut [u8], p: Step) -> Answer
     requires { ⌜ sound (now t) (length (now m)) ≡ true ⌝ }
-    requires { ⌜ y.formed (coresOf (now t)) p ≡ true ⌝ }
-    requires { ⌜ y.isPlanned p ≡ true ⌝ }
-    ensures { λ r. ⌜ r ≡ x.settled (byStep (now (t .entry)) (now (m .entry)) p) (now (t .entry)) (now (m .entry)) .answer ⌝ }
-    ensures { λ _. ⌜ now (t .exit) ≡ x.settled (byStep (now (t .entry)) (now (m .entry)) p) (now (t .entry)) (now (m .entry)) .tables ⌝ }
-    ensures { λ _. ⌜ now (m .exit) ≡ x.settled (byStep (now (t .entry)) (now (m .entry)) p) (now (t .entry)) (now (m .entry)) .memory ⌝ }
+    requires { ⌜ formed (coresOf (now t)) p ≡ true ⌝ }
+    requires { ⌜ isPlanned p ≡ true ⌝ }
+    ensures { λ r. ⌜ r ≡ tried (byStep (now (t .entry)) (now (m .entry)) p) (now (t .entry)) (now (m .entry)) .answer ⌝ }
+    ensures { λ _. ⌜ now (t .exit) ≡ tried (byStep (now (t .entry)) (now (m .entry)) p) (now (t .entry)) (now (m .entry)) .tables ⌝ }
+    ensures { λ _. ⌜ now (m .exit) ≡ tried (byStep (now (t .entry)) (now (m .entry)) p) (now (t .entry)) (now (m .entry)) .memory ⌝ }
 {
     let k = decide::core_of(p);
     let plan = decide::plan(t, m, p);
@@ -54,18 +58,17 @@ fn by_plan(t: &mut [u32], m: &mut [u8], p: Step) -> Answer
         commit::commit(t, m, k, plan);
         return r;
     }
-    count(t);
     r
 }
 
 // Any other step on sound tables.
 fn by_action(t: &mut [u32], m: &mut [u8], p: Step) -> Answer
     requires { ⌜ sound (now t) (length (now m)) ≡ true ⌝ }
-    requires { ⌜ y.formed (coresOf (now t)) p ≡ true ⌝ }
-    requires { ⌜ y.isPlanned p ≡ false ⌝ }
-    ensures { λ r. ⌜ r ≡ x.settled (byStep (now (t .entry)) (now (m .entry)) p) (now (t .entry)) (now (m .entry)) .answer ⌝ }
-    ensures { λ _. ⌜ now (t .exit) ≡ x.settled (byStep (now (t .entry)) (now (m .entry)) p) (now (t .entry)) (now (m .entry)) .tables ⌝ }
-    ensures { λ _. ⌜ now (m .exit) ≡ x.settled (byStep (now (t .entry)) (now (m .entry)) p) (now (t .entry)) (now (m .entry)) .memory ⌝ }
+    requires { ⌜ formed (coresOf (now t)) p ≡ true ⌝ }
+    requires { ⌜ isPlanned p ≡ false ⌝ }
+    ensures { λ r. ⌜ r ≡ tried (byStep (now (t .entry)) (now (m .entry)) p) (now (t .entry)) (now (m .entry)) .answer ⌝ }
+    ensures { λ _. ⌜ now (t .exit) ≡ tried (byStep (now (t .entry)) (now (m .entry)) p) (now (t .entry)) (now (m .entry)) .tables ⌝ }
+    ensures { λ _. ⌜ now (m .exit) ≡ tried (byStep (now (t .entry)) (now (m .entry)) p) (now (t .entry)) (now (m .entry)) .memory ⌝ }
 {
     let a = decide::action(t, m, p);
     let r = action::answer(a);
@@ -73,17 +76,17 @@ fn by_action(t: &mut [u32], m: &mut [u8], p: Step) -> Answer
         action::commit(t, m, a);
         return r;
     }
-    count(t);
     r
 }
 
-// A step on sound tables, as its words say it. Steps that have a plan go their own way: a plan is large, and joined with the other actions it
-// would be copied from hand to hand.
-pub fn take(t: &mut [u32], m: &mut [u8], s: &[u32]) -> Answer
+// A step on sound tables, as its words say it, up to the count: where it is refused nothing moves, and the callers count.
+// Steps that have a plan go their own way: a plan is large, and joined with the other actions it would be copied from
+// hand to hand.
+pub(crate) fn take(t: &mut [u32], m: &mut [u8], s: &[u32]) -> Answer
     requires { ⌜ sound (now t) (length (now m)) ≡ true ⌝ }
-    ensures { λ r. ⌜ r ≡ x.taken (now (t .entry)) (now (m .entry)) (now (s .entry)) .answer ⌝ }
-    ensures { λ _. ⌜ now (t .exit) ≡ x.taken (now (t .entry)) (now (m .entry)) (now (s .entry)) .tables ⌝ }
-    ensures { λ _. ⌜ now (m .exit) ≡ x.taken (now (t .entry)) (now (m .entry)) (now (s .entry)) .memory ⌝ }
+    ensures { λ r. ⌜ r ≡ tried (decided (now (t .entry)) (now (m .entry)) (now (s .entry))) (now (t .entry)) (now (m .entry)) .answer ⌝ }
+    ensures { λ _. ⌜ now (t .exit) ≡ tried (decided (now (t .entry)) (now (m .entry)) (now (s .entry))) (now (t .entry)) (now (m .entry)) .tables ⌝ }
+    ensures { λ _. ⌜ now (m .exit) ≡ tried (decided (now (t .entry)) (now (m .entry)) (now (s .entry))) (now (t .entry)) (now (m .entry)) .memory ⌝ }
 {
     let p = steps::parse(t[layout::CORES], s);
     if decide::is_planned(p) {
@@ -94,13 +97,18 @@ pub fn take(t: &mut [u32], m: &mut [u8], s: &[u32]) -> Answer
 
 // A step on any tables.
 pub fn step(t: &mut [u32], m: &mut [u8], s: &[u32]) -> Answer
-    ensures { λ r. ⌜ r ≡ x.step (now (t .entry)) (now (m .entry)) (now (s .entry)) .answer ⌝ }
-    ensures { λ _. ⌜ now (t .exit) ≡ x.step (now (t .entry)) (now (m .entry)) (now (s .entry)) .tables ⌝ }
-    ensures { λ _. ⌜ now (m .exit) ≡ x.step (now (t .entry)) (now (m .entry)) (now (s .entry)) .memory ⌝ }
-    ensures { λ r. ⌜ answerNumber r ≡ answerNumber (x.step (now (t .entry)) (now (m .entry)) (now (s .entry)) .answer) ⌝ }
+    ensures { λ r. ⌜ r ≡ operation.step (now (t .entry)) (now (m .entry)) (now (s .entry)) .answer ⌝ }
+    ensures { λ _. ⌜ now (t .exit) ≡ operation.step (now (t .entry)) (now (m .entry)) (now (s .entry)) .tables ⌝ }
+    ensures { λ _. ⌜ now (m .exit) ≡ operation.step (now (t .entry)) (now (m .entry)) (now (s .entry)) .memory ⌝ }
+    ensures { λ r. ⌜ answerNumber r ≡ answerNumber (operation.step (now (t .entry)) (now (m .entry)) (now (s .entry)) .answer) ⌝ }
 {
     if !tables::sound(t, m.len()) {
         return Answer::Refused(4);
     }
-    take(t, m, s)
+    let r = take(t, m, s);
+    if is_accepted(r) {
+        return r;
+    }
+    count(t, s);
+    r
 }

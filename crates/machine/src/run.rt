@@ -1,4 +1,5 @@
 // The operation Run: a schedule of steps, with one check of soundness.
+use super::count;
 use super::is_accepted;
 use super::take;
 use steps::Answer;
@@ -7,7 +8,7 @@ ghost use mathlib.Core.Bool.{true};
 ghost use Prim.Native.Nat.{_/_};
 ghost use lib.ListN.{length};
 ghost use Rattle.tables.specs.Sound.{sound};
-ghost use Rattle.machine.specs.Run as x;
+ghost use Rattle.machine.specs.Run as operation;
 
 pub enum Stop {
     End,
@@ -29,7 +30,7 @@ fn result(accepted: u32, stop: Stop) -> Ran
 
 // Why a run stops after an answer that is a refusal.
 fn stop_of(a: Answer) -> Stop
-    ensures { λ r. ⌜ r ≡ x.stopOf a ⌝ }
+    ensures { λ r. ⌜ r ≡ operation.stopOf a ⌝ }
 {
     match a {
         Answer::Done => Stop::End,
@@ -41,8 +42,8 @@ fn stop_of(a: Answer) -> Stop
 // The steps of a schedule of whole steps, on sound tables.
 fn steps(t: &mut [u32], m: &mut [u8], schedule: &[u32], limit: u32) -> Ran
     requires { ⌜ sound (now t) (length (now m)) ≡ true ⌝ }
-    requires { ⌜ x.whole (now schedule) ≡ true ⌝ }
-    ensures { λ r. ⌜ x.Is r (now (t .exit)) (now (m .exit)) (x.runFrom (length (now (schedule .entry)) / 6) (now (schedule .entry)) limit 0 (now (t .entry)) (now (m .entry))) ⌝ }
+    requires { ⌜ operation.whole (now schedule) ≡ true ⌝ }
+    ensures { λ r. ⌜ operation.Is r (now (t .exit)) (now (m .exit)) (operation.runFrom (length (now (schedule .entry)) / 6) (now (schedule .entry)) limit 0 (now (t .entry)) (now (m .entry))) ⌝ }
 {
     let mut i: usize = 0;
     let mut accepted: u32 = 0;
@@ -53,6 +54,7 @@ fn steps(t: &mut [u32], m: &mut [u8], schedule: &[u32], limit: u32) -> Ran
         let e = i + 6;
         let r = take(t, m, &schedule[i..e]);
         if !is_accepted(r) {
+            count(t, &schedule[i..e]);
             return result(accepted, stop_of(r));
         }
         accepted += 1;
@@ -63,7 +65,7 @@ fn steps(t: &mut [u32], m: &mut [u8], schedule: &[u32], limit: u32) -> Ran
 
 // Neither refusal 4 nor 11 writes.
 pub fn run(t: &mut [u32], m: &mut [u8], schedule: &[u32], limit: u32) -> Ran
-    ensures { λ r. ⌜ x.Is r (now (t .exit)) (now (m .exit)) (x.run (now (t .entry)) (now (m .entry)) (now (schedule .entry)) limit) ⌝ }
+    ensures { λ r. ⌜ operation.Is r (now (t .exit)) (now (m .exit)) (operation.run (now (t .entry)) (now (m .entry)) (now (schedule .entry)) limit) ⌝ }
 {
     if !tables::sound(t, m.len()) {
         return result(0, Stop::Refused(4));

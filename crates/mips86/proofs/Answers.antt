@@ -17,6 +17,7 @@ use Rattle.steps.specs.Answers.{answerNumber}
 use Rattle.machine.specs.declared.run.Stop.the-variants as stop
 use Rattle.machine.specs.Step.{isAccepted, taken, step}
 use Rattle.machine.specs.Run.{stopNumber, Result, stopsWith, stopOf, onStep, runFrom, whole, run}
+use Rattle.machine.proofs.Taking.{by-test, by-refused}
 use Rattle.machine.proofs.Levels.{known}
 use Rattle.machine.proofs.Answers.{taken-known}
 
@@ -44,9 +45,9 @@ answer-fits t m s = let h = step-lt t m s in omega (arith, h)
 -- ---- a run
 
 on-answer : (x : Answer) (n : ℕ) (t m : List ℕ) (rest : Result) → answerNumber x < 112 → stopNumber (rest .why) < 112 → stopNumber ((if isAccepted x then rest else stopsWith n (stopOf x) t m) .why) < 112
-on-answer Done n t m rest e h = h
-on-answer (Interrupt l) n t m rest e h = h
-on-answer (Refused x) n t m rest e h = e
+on-answer x n t m rest e h =
+    by-test (λ (r : Result). stopNumber (r .why) < 112) (isAccepted x) rest _ (λ _. h)
+    (λ q. by-refused (λ (y : Answer). answerNumber y < 112 → stopNumber (stopOf y) < 112) (λ n e. e) x q e)
 
 run-from : (k : ℕ) (s : List ℕ) (limit n : ℕ) (t m : List ℕ) → stopNumber (runFrom k s limit n t m .why) < 112
 unfolding runFrom

@@ -61,7 +61,7 @@ pub processor-of : {b c : List ℕ} → b ≡ c → SameProcessor (processorOf b
 processor-of {b} {c} e = subst (λ (x : List ℕ). SameProcessor (processorOf b) (processorOf x)) e (processor-refl (processorOf b))
 
 -- by what a block shows
-pub shown : {n : ℕ} {c : List ℕ} {r : Registers} {x : ℕ} {ss : List Store} {ws : List Walk} → Shows n c r x ss ws → (tlb : Walk → Bool) →
+pub shown : {n : ℕ} {b c : List ℕ} {r : Registers} {ss : List Store} {ws : List Walk} → Shows n b c r ss ws → (tlb : Walk → Bool) →
     ((w : Walk) → tlb w ≡ among w ws) → (a : Apic) → SameApic a (apicOf c) → SameProcessor (record { core = r; sb = ss; tlb = tlb; apic = a }) (processorOf c)
 unfolding processorOf
 shown S tlb f a A = record { core = sym (S .registers-view); sb = sym (S .stores-view); tlb = λ w. f w ∙ sym (ap (among w) (S .walks-view)); apic = A }
@@ -265,7 +265,7 @@ module _ (n : ℕ) (p : Plan) (b : List ℕ) (long : length b ≡ 256) (e : soun
   brings = (and-left (storeBrought n (p .buffer)) _ s, and-right (storeBrought n (p .buffer)) _ s)
 
   up-to : (x : BufferChange) (y : WalkChange) → bufferReady x b ≡ true → walksReady y b ≡ true → storeBrought n x ≡ true → walkBrought y ≡ true →
-      Shows n (blockAfter (upTo x y) b) (registersAfter (p .core) (registersOf b)) (runningOf b) (storesAfter x (stores b)) (tlbAfter y (walks b))
+      Shows n b (blockAfter (upTo x y) b) (registersAfter (p .core) (registersOf b)) (storesAfter x (stores b)) (tlbAfter y (walks b))
   unfolding upTo ready planSound portReady
   up-to x y f g k l =
       plan-shows n (upTo x y) b long e (and-both (bufferReady x b) _ f (and-both (walksReady y b) _ g refl)) (and-both (storeBrought n x) _ k l)
@@ -305,7 +305,7 @@ module _ (t m : List ℕ) (k : ℕ) (p : Plan) (e : sound t (length m) ≡ true)
   long : length (blockAfter p b) ≡ 256
   long = plan-long t m k p e h D
 
-  shows : Shows (length m) (blockAfter p b) (registersAfter (p .core) (registersOf b)) (runningOf b) (storesAfter (p .buffer) (stores b)) (tlbAfter (p .walks) (walks b))
+  shows : Shows (length m) b (blockAfter p b) (registersAfter (p .core) (registersOf b)) (storesAfter (p .buffer) (stores b)) (tlbAfter (p .walks) (walks b))
   shows = plan-shows (length m) p b (core-long t (length m) e k h) (core-sound t (length m) e k h) (D .is-ready) (D .is-sound)
 
   pub io-still : isIo (p .write) ≡ false → SameIo (ioapicOf t) (ioapicOf u)
@@ -346,7 +346,7 @@ module _ (t m : List ℕ) (k : ℕ) (p : Plan) (e : sound t (length m) ≡ true)
         runs j l true q =
             let i = eqb-true j k q in
             subst (λ (i : ℕ). eqb (runningOf (block t i)) 1 ≡ eqb (runningOf (block u i)) 1) (sym i)
-            (ap (λ (x : ℕ). eqb x 1) (sym (ap runningOf (tables-own k p t fits long) ∙ shows .running-view)))
+            (ap (λ (x : ℕ). eqb x 1) (sym (ap runningOf (tables-own k p t fits long) ∙ shows .still at.running (inl refl))))
         runs j l false q = ap (λ (c : List ℕ). eqb (runningOf c) 1) (sym (tables-other k p t fits long j (eqb-false j k q) (core-fits t (length m) e j l)))
 
   -- a plan that leaves the processor

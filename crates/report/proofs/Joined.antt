@@ -18,11 +18,12 @@ use Rattle.isa.specs.Interrupts.{ovfOf, jisr, il, continues, deltaJisr, deltaRf
 use Rattle.isa.specs.Core.{deltaInstr}
 use Rattle.records.specs.declared.Store.{Store}
 use Rattle.records.specs.declared.Walk.{Walk}
-use Rattle.tables.specs.Views.{coresOf, refusalsOf}
+use Rattle.tables.specs.Views.{coresOf, refusalsOf, ownRefusalsOf}
 use Rattle.tables.specs.Sound.{sound}
 use Rattle.tables.proofs.Lift.{header, core-long, core-sound}
 use Rattle.tables.proofs.Steps.{block-few-stores}
 use Rattle.steps.specs.declared.Answer.{Answer}
+use Rattle.steps.specs.declared.Answer.the-variants.{Done, Interrupt}
 use Rattle.steps.specs.declared.Step.{Step}
 use Rattle.steps.specs.declared.Step.the-variants as kind
 use Rattle.steps.specs.Form.{stepOf}
@@ -33,7 +34,7 @@ use Rattle.machine.specs.inner.Split.{formed}
 use Rattle.machine.proofs.Forms.{step-formed}
 use Rattle.machine.specs.Actions.{tablesAfter, memoryAfter}
 use Rattle.machine.proofs.Keeping.{decided-keeps, step-keeps, step-long, step-sound}
-use Rattle.machine.proofs.Taking.{taken-done, taken-interrupt, taken-refused, is-sound}
+use Rattle.machine.proofs.Taking.{taken-accepted, taken-refused, is-sound}
 use Rattle.report.specs.Demands.{outcome, Ground, Demand2, limited, Unhindered, Words, Bytes, Next, Full, Kept, Accepted, Allowed, excepted, claimed, Exception}
 use Rattle.report.specs.Delta as report
 use Rattle.report.specs.View.{view, processorOf}
@@ -253,6 +254,7 @@ module _ (t m s : List ℕ) (e : sound t (length m) ≡ true) (ws : Words t) (bs
         cores = K .cores;
         pages = omega (arith, long, before .bytes, after .bytes);
         count = ap refusalsOf (sym q) ∙ decided-keeps t m e ws bs s .count;
+        own-counts = λ k h. ap (λ (u : List ℕ). ownRefusalsOf (block u k)) (sym q) ∙ decided-keeps t m e ws bs s .own-counts k h;
       }
 
   accepted : {q : Answer} (o : report.Answer) → Is q (tablesAfter (decided t m s) t) (memoryAfter (decided t m s) m) → Roomy t m x → Has t m x → Leads t m x (decided t m s) o → Accepted t m s o
@@ -265,9 +267,9 @@ module _ (t m s : List ℕ) (e : sound t (length m) ≡ true) (ws : Words t) (bs
   Ok q = Ground t m s q
 
   pub ground : Case t m x (decided t m s) → Ok (r .answer)
-  ground (Case.done a y p n) = let I = on-sound (taken-done t m s (sym a)) in subst Ok (I .0) (Ground.done (accepted report.done I y p n))
+  ground (Case.done a y p n) = let I = on-sound (taken-accepted t m s Done refl (sym a)) in subst Ok (I .0) (Ground.done (accepted report.done I y p n))
   ground (Case.interrupt level a y p n) =
-      let I = on-sound (taken-interrupt t m s level (sym a)) in subst Ok (I .0) (Ground.interrupt level (accepted (report.interrupt level) I y p n))
+      let I = on-sound (taken-accepted t m s (Interrupt level) refl (sym a)) in subst Ok (I .0) (Ground.interrupt level (accepted (report.interrupt level) I y p n))
   ground (Case.no-step a p) = subst Ok (on-sound (taken-refused t m s 5 (sym a)) .0) (Ground.no-step p)
   ground (Case.undefined a p q) = subst Ok (on-sound (taken-refused t m s 6 (sym a)) .0) (Ground.undefined p (λ M. defined-none (view t m M) x (q M)))
   ground (Case.no-byte a y p M b d) = subst Ok (on-sound (taken-refused t m s 7 (sym a)) .0) (Ground.no-byte y p M b (defined-allowed (view t m M) x d))

@@ -6,22 +6,22 @@ use mathlib.Core.Bool.{Bool, true, false}
 use mathlib.Core.List.{List}
 use Prim.Native.Nat.{ℕ, _+_, _-_, _^_}
 use lib.Dec.{eqb, ltb, leb}
-use lib.ListN.{length, set}
+use lib.ListN.{length, getD, set}
 use lib.Seq.{getD-set-same}
 use native.Mathlib.Omega.{arith}
 use borrow.Author.Tests.{leb-true, le-leb, ne-eqb, eq-eqb}
 use Rattle.word.specs.Word.{if_then_else_}
-use Rattle.layout.specs.Layout.{refusals}
 use Rattle.word.proofs.Tests.{true-false}
 use Rattle.word.proofs.Truth.{and-left, and-right, and-both}
-use Rattle.tables.specs.Views.{refusalsOf}
+use Rattle.tables.specs.Views.{coresOf}
 use Rattle.tables.specs.Sound.{sound}
 use Rattle.steps.specs.declared.Answer.{Answer}
 use Rattle.steps.specs.declared.Answer.the-variants.{Done, Interrupt, Refused}
 use Rattle.machine.specs.Actions.{answerOf}
 use Rattle.machine.specs.Decide.{decided}
-use Rattle.machine.specs.Step.{Stepped, counted, taken, step}
-use Rattle.machine.proofs.Fitting.{header-words}
+use Rattle.steps.specs.Form.{countAt}
+use Rattle.machine.specs.Step.{Stepped, oneMore, counted, taken, step}
+use Rattle.machine.proofs.Fitting.{count-there}
 use Rattle.machine.proofs.Keeping.{refused-count, step-sound}
 use Rattle.machine.proofs.Words.{step-words, step-bytes}
 use Rattle.machine.proofs.Taking.{taken-refused, not-sound, is-sound}
@@ -50,34 +50,40 @@ module _ (t m s : List ℕ) where
       go false e = ap known (sym (not-sound t m s e .0))
 
   module _ (n : ℕ) (a : step t m s .answer ≡ Refused n) where
+    abbrev i : ℕ
+    i = countAt (coresOf t) s
+
+    abbrev c : List ℕ → ℕ
+    c u = getD u i 0
+
     -- one more, but for the largest
-    counts : sound t (length m) ≡ true → refusalsOf (counted t) ≡ (if ltb (refusalsOf t) (2 ^ 32 - 1) then refusalsOf t + 1 else refusalsOf t)
-    unfolding counted
-    counts e = go (ltb (refusalsOf t) (2 ^ 32 - 1))
+    counts : sound t (length m) ≡ true → c (counted s t) ≡ (if ltb (c t) (2 ^ 32 - 1) then c t + 1 else c t)
+    unfolding counted oneMore
+    counts e = go (ltb (c t) (2 ^ 32 - 1))
       where
-        go : (b : Bool) → refusalsOf (if b then set t refusals (refusalsOf t + 1) else t) ≡ (if b then refusalsOf t + 1 else refusalsOf t)
-        go true = getD-set-same t refusals (refusalsOf t + 1) 0 (omega (arith, header-words t (length m) e))
+        go : (b : Bool) → c (if b then set t i (c t + 1) else t) ≡ (if b then c t + 1 else c t)
+        go true = getD-set-same t i (c t + 1) 0 (count-there t (length m) e s)
         go false = refl
 
-    count : refusalsOf (step t m s .tables) ≡ countAfter n (refusalsOf t)
+    count : c (step t m s .tables) ≡ countAfter n (c t)
     unfolding taken
     count = go (sound t (length m)) refl
       where
-        go : (b : Bool) → sound t (length m) ≡ b → refusalsOf (step t m s .tables) ≡ countAfter n (refusalsOf t)
+        go : (b : Bool) → sound t (length m) ≡ b → c (step t m s .tables) ≡ countAfter n (c t)
         go true e =
             let p : taken t m s .answer ≡ Refused n = ap (λ (r : Stepped). r .answer) (is-sound t m s e) ∙ a in
-            let q : answerOf (decided t m s) ≡ Refused n = sym (after-answer (answerOf (decided t m s)) (decided t m s) t m) ∙ p in
-            ap (λ (r : Stepped). refusalsOf (r .tables)) (sym (is-sound t m s e))
-            ∙ ap refusalsOf (sym (taken-refused t m s n (sym q) .1))
+            let q : answerOf (decided t m s) ≡ Refused n = sym (after-answer s (answerOf (decided t m s)) (decided t m s) t m) ∙ p in
+            ap (λ (r : Stepped). c (r .tables)) (sym (is-sound t m s e))
+            ∙ ap c (sym (taken-refused t m s n (sym q) .1))
             ∙ counts e
-            ∙ ap (λ (b : Bool). if b then refusalsOf t else if ltb (refusalsOf t) (2 ^ 32 - 1) then refusalsOf t + 1 else refusalsOf t)
+            ∙ ap (λ (b : Bool). if b then c t else if ltb (c t) (2 ^ 32 - 1) then c t + 1 else c t)
             (sym (not-four n (ap levels.known (sym p) ∙ taken-known t m s)))
         go false e =
             let q : n ≡ 4 = let d : Refused 4 ≡ Refused n = not-sound t m s e .0 ∙ a in cc in
-            ap refusalsOf (sym (not-sound t m s e .1))
-            ∙ ap (λ (b : Bool). if b then refusalsOf t else if ltb (refusalsOf t) (2 ^ 32 - 1) then refusalsOf t + 1 else refusalsOf t) (sym (eq-eqb n 4 q))
+            ap c (sym (not-sound t m s e .1))
+            ∙ ap (λ (b : Bool). if b then c t else if ltb (c t) (2 ^ 32 - 1) then c t + 1 else c t) (sym (eq-eqb n 4 q))
 
-    left : Left t m n (step t m s)
+    left : Left t m s n (step t m s)
     left =
         let R = refused-count t m s n a in
         record { memory = R .0; long = R .1 .long; words = R .1 .same; count = count }

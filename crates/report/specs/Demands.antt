@@ -34,14 +34,14 @@ use Rattle.isa.specs.Core.{sprAt, lop, rop}
 use Rattle.isa.specs.Interrupts.{ovfOf}
 use Rattle.records.specs.declared.Walk.{Walk}
 use Rattle.records.specs.Records.{walks}
-use Rattle.tables.specs.Views.{coresOf, pagesOf, refusalsOf}
+use Rattle.tables.specs.Views.{coresOf, pagesOf, refusalsOf, ownRefusalsOf}
 use Rattle.tables.specs.Sound.{sound}
 use Rattle.tables.specs.Make.{made}
 use Rattle.steps.specs.declared.Answer.{Answer}
 use Rattle.steps.specs.declared.Answer.the-variants.{Done, Interrupt, Refused}
 use Rattle.steps.specs.declared.Step.{Step}
 use Rattle.steps.specs.declared.Step.the-variants.{Core, TlbCreate, TlbExtend, TlbAccessed, StoreBuffer, SendIpi, SendEoi, InitCore, StartCore, Sample, Deliver, SetLine, NotAStep}
-use Rattle.steps.specs.Form.{stepOf, lineCount}
+use Rattle.steps.specs.Form.{stepOf, lineCount, countAt}
 use Rattle.machine.specs.Step.{Stepped, step}
 use Rattle.report.specs.Configuration.{Configuration}
 use Rattle.report.specs.Components.{ID, ICR, bitAt, isr, irr}
@@ -64,23 +64,23 @@ known Done = true
 known (Interrupt level) = ltb level 8
 known (Refused n) = leb 4 n && leb n 10
 
--- the count after refusal n: 4 leaves it, and it stays at its largest
+-- a count after refusal n: 4 leaves it, and it stays at its largest
 abbrev pub countAfter : ℕ → ℕ → ℕ
 countAfter n k = if eqb n 4 then k else if ltb k (2 ^ 32 - 1) then k + 1 else k
 
--- what refusal n leaves
-pub record Left (t m : List ℕ) (n : ℕ) (r : Stepped) : Type 0 where
+-- what refusal n leaves: all but the word that counts refusals of such a step, its core's or the header's (steps, specs/Form)
+pub record Left (t m s : List ℕ) (n : ℕ) (r : Stepped) : Type 0 where
   pub memory : r .memory ≡ m
   pub long : length (r .tables) ≡ length t
-  pub words : (i : ℕ) → (i ≡ at.refusals → ⊥) → getD (r .tables) i 0 ≡ getD t i 0
-  pub count : refusalsOf (r .tables) ≡ countAfter n (refusalsOf t)
+  pub words : (i : ℕ) → (i ≡ countAt (coresOf t) s → ⊥) → getD (r .tables) i 0 ≡ getD t i 0
+  pub count : getD (r .tables) (countAt (coresOf t) s) 0 ≡ countAfter n (getD t (countAt (coresOf t) s) 0)
 
 pub record Answered (t m s : List ℕ) : Type 0 where
   pub answer : known (step t m s .answer) ≡ true
   -- 4 exactly where the tables are not sound, and then nothing moves at all
   pub four : sound t (length m) ≡ false → step t m s ≡ record { answer = Refused 4; tables = t; memory = m }
   pub not-four : sound t (length m) ≡ true → step t m s .answer ≡ Refused 4 → ⊥
-  pub refused : (n : ℕ) → step t m s .answer ≡ Refused n → Left t m n (step t m s)
+  pub refused : (n : ℕ) → step t m s .answer ≡ Refused n → Left t m s n (step t m s)
   -- words stay words, bytes bytes, and sound tables sound
   pub words : Words t → Bytes m → Words (step t m s .tables)
   pub bytes : Bytes m → Bytes (step t m s .memory)
@@ -185,6 +185,7 @@ pub record Kept (t m u n : List ℕ) : Type 0 where
   pub cores : coresOf u ≡ coresOf t
   pub pages : pagesOf u ≡ pagesOf t
   pub count : refusalsOf u ≡ refusalsOf t
+  pub own-counts : (k : ℕ) → k < coresOf t → ownRefusalsOf (block u k) ≡ ownRefusalsOf (block t k)
 
 module _ (t m s : List ℕ) where
   abbrev pub a : Step

@@ -1,11 +1,15 @@
 -- The facts about one step of kind 0 to 4 of a core whose block is good for the pages S of its side.
 -- Assumes nothing.
 use mathlib.Core.Path.{_≡_, sym, ap, ap₂, subst, _∙_}
-use mathlib.Core.Bool.{true, false}
+use mathlib.Core.Bool.{Bool, true, false}
 use mathlib.Core.List.{List, [], _∷_}
-use Prim.Native.Nat.{ℕ, _<_}
-use lib.ListN.{length}
+use Prim.Native.Nat.{ℕ, _+_, _-_, _^_, _<_}
+use native.Mathlib.Omega.{arith}
+use lib.ListN.{length, getD, set}
+use lib.Dec.{ltb}
 use Rattle.word.proofs.Bytes.{Bytes}
+use Rattle.word.specs.Word.{if_then_else_}
+use Rattle.layout.specs.Layout as at
 use Rattle.layout.specs.Blocks.{block}
 use Rattle.records.specs.declared.Walk.{Walk}
 use Rattle.records.specs.declared.Store.{Store}
@@ -14,8 +18,10 @@ use Rattle.isa.specs.declared.registers.Registers.{Registers}
 use Rattle.tables.specs.Views.{coresOf}
 use Rattle.tables.specs.Sound.{sound}
 use Rattle.tables.proofs.Lift.{core-long, core-sound}
+use Rattle.tables.proofs.Places.{count-allowed, set-stores, set-walks, set-registers}
+use Rattle.steps.specs.declared.Answer.{Answer}
 use Rattle.steps.specs.Form.{word}
-use Rattle.machine.specs.Step.{Stepped, step}
+use Rattle.machine.specs.Step.{Stepped, isAccepted, oneMore, step}
 use Rattle.cores.specs.declared.BufferChange.{BufferChange}
 use Rattle.cores.specs.declared.BufferChange.the-variants.{Put, Take}
 use Rattle.cores.specs.declared.WalkChange.{WalkChange}
@@ -31,7 +37,8 @@ use Rattle.separation.specs.Separation.{isInterrupt}
 use Rattle.reach.proofs.Lists.{Each, each-append}
 use Rattle.separation.proofs.Memory.{Agree, Kept, put-same, put-bytes}
 use Rattle.separation.proofs.Good.{WalkOk, StoreOk, Good, Closed, Low, good-after, each-with, each-staying, each-drop}
-use Rattle.machine.proofs.Locality.{Plain, planOf, formOf, Law, plan-done, step-law}
+use Rattle.machine.proofs.Taking.{by-test}
+use Rattle.machine.proofs.Locality.{Plain, planOf, formOf, ownAfter, isCounted, Law, plan-done, step-law}
 use Rattle.separation.proofs.Local.{plan-same}
 use Rattle.separation.proofs.Safe.{BufferOk, WalksOk, Safe, plan-safe}
 
@@ -59,6 +66,26 @@ written-same ps m n (Memory i d v) g a h = put-same d m n i v a (g a h)
 written-same ps m n (LocalPort i v) g a h = g a h
 written-same ps m n (IoPort i v) g a h = g a h
 
+-- a refusal more leaves a good block good
+good-more : (S : Pages) (b : List ℕ) → Good S b → Good S (oneMore at.ownRefusals b)
+unfolding oneMore
+good-more S b G = go (getD b at.ownRefusals 0) (ltb (getD b at.ownRefusals 0) (2 ^ 32 - 1))
+  where
+    go : (v : ℕ) (t : Bool) → Good S (if t then set b at.ownRefusals (v + 1) else b)
+    go v true =
+        let A = count-allowed (v + 1) in
+        good-after S b (set b at.ownRefusals (v + 1)) G
+        (ap (λ (r : Registers). r .spr) (set-registers b at.ownRefusals (v + 1) (omega arith)))
+        (subst (Each (WalkOk S)) (sym (set-walks b at.ownRefusals (v + 1) A)) (G .held))
+        (subst (Each (StoreOk S)) (sym (set-stores b at.ownRefusals (v + 1) A)) (G .pending))
+    go v false = G
+
+-- so does a step of the core, if its plan does
+good-own : (S : Pages) (c : Bool) (p : Plan) (a : Answer) (b : List ℕ) → Good S b → Good S (blockAfter p b) → Good S (ownAfter c p a b)
+good-own S c p a b G H =
+    by-test (Good S) (isAccepted a) (blockAfter p b) _ (λ _. H)
+    (λ _. by-test (Good S) c (oneMore at.ownRefusals b) b (λ _. good-more S b G) (λ _. G))
+
 -- what a step does within its side
 pub record Steps (S : Pages) (t m : List ℕ) (k : ℕ) (r : Stepped) : Type 0 where
   pub kept : Kept (tablePages S) (S .writables) m (r .memory)
@@ -73,22 +100,23 @@ module _ (S : Pages) (L : Low S) (t m s : List ℕ) (e : sound t (length m) ≡ 
   abbrev P : Plan
   P = planOf o (block t (word s 1)) (ioPortsOf t) m
 
-  pub law : Law t m (word s 1) (planOf o (block t (word s 1)) (ioPortsOf t) m) (step t m s)
+  pub law : Law t m (word s 1) (isCounted s) (planOf o (block t (word s 1)) (ioPortsOf t) m) (step t m s)
   law = step-law t m s e b h (G .word) o
 
   pub steps : Closed S m → Steps S t m (word s 1) (step t m s)
   steps C =
-      let D = plan-done t m e (word s 1) h o b (G .word) in
+      let D = plan-done t m e s h o b (G .word) in
       let safe : Safe S m (block t (word s 1)) P = plan-safe S L m (block t (word s 1)) b G C o (ioPortsOf t) in
       let shows = plan-shows (length m) P (block t (word s 1)) (core-long t (length m) e (word s 1) h) (core-sound t (length m) e (word s 1) h) (D .is-ready) (D .is-sound) in
       record {
         kept = subst (λ (n : List ℕ). Kept (tablePages S) (S .writables) m n) (sym (law .bytes)) (safe .kept);
         good = λ q.
             subst (Good S) (sym (law .own))
+            (good-own S (isCounted s) P (P .answer) (block t (word s 1)) G
             (good-after S (block t (word s 1)) (blockAfter P (block t (word s 1))) G
             (ap (λ (r : Registers). r .spr) (shows .registers-view) ∙ safe .special (sym (ap isInterrupt (law .answers)) ∙ q))
             (subst (Each (WalkOk S)) (sym (shows .walks-view)) (walks-after S (P .walks) (walks (block t (word s 1))) (safe .adds) (G .held)))
-            (subst (Each (StoreOk S)) (sym (shows .stores-view)) (stores-after S (P .buffer) (stores (block t (word s 1))) (safe .puts) (G .pending))));
+            (subst (Each (StoreOk S)) (sym (shows .stores-view)) (stores-after S (P .buffer) (stores (block t (word s 1))) (safe .puts) (G .pending)))));
         bytes = subst (λ (n : List ℕ). Bytes n) (sym (law .bytes)) (written-bytes (P .write) m b);
       }
 
@@ -110,7 +138,7 @@ matched S L t m u n s e f b c h i G o q A =
     let Y = law S L u n s f c i F o in
     record {
       answers = X .answers ∙ ap (λ (r : Plan). r .answer) p ∙ sym (Y .answers);
-      blocks = X .own ∙ ap₂ (λ (r : Plan) (x : List ℕ). blockAfter r x) p q ∙ sym (Y .own);
+      blocks = X .own ∙ ap₂ (λ (r : Plan) (x : List ℕ). ownAfter (isCounted s) r (r .answer) x) p q ∙ sym (Y .own);
       memories =
           subst (λ (x : List ℕ). Agree (reached S) (step t m s .memory) x) (sym (Y .bytes ∙ ap (λ (r : Plan). memoryByPlan r n) (sym p)))
           (subst (λ (x : List ℕ). Agree (reached S) x (memoryByPlan (planOf o (block t (word s 1)) (ioPortsOf t) m) n)) (sym (X .bytes))

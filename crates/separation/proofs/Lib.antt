@@ -2,6 +2,7 @@ pub mod TwoLists
 pub mod Memory
 pub mod Good
 pub mod Local
+pub mod Refusals
 pub mod Safe
 pub mod Facts
 pub mod Within

@@ -1,20 +1,21 @@
--- Demand 3 (01, 'What demand 3 compares'): whatever the other cores hold and do, a group of cores found apart observes the same.
+-- Demand 3 (01, 'What demand 3 compares'): whatever the other cores hold and do, a group of cores found apart observes the same. A core's own count
+-- of refusals, word 115 of its block (02, 'Whose refusals?'), is among what its group sees, and refusals of other cores never show there: `Refusals`.
 -- Assumes nothing.
 use mathlib.Core.Path.{_≡_}
 use mathlib.Core.Logic.{_⊎_}
 use mathlib.Core.Bool.{Bool, true, false, _&&_, _||_, not}
 use mathlib.Core.List.{List, [], _∷_, map}
-use Prim.Native.Nat.{ℕ, _*_, _/_, _%_, _^_, _<_}
+use Prim.Native.Nat.{ℕ, _+_, _*_, _/_, _%_, _^_, _<_}
 use lib.Dec.{eqb, leb}
 use lib.ListN.{length, getD, take, drop}
 use Rattle.word.specs.Word.{if_then_else_, isSet}
-use Rattle.layout.specs.Layout.{pageBytes}
+use Rattle.layout.specs.Layout.{pageBytes, blockAt, ownRefusals}
 use Rattle.layout.specs.Blocks.{block}
 use Rattle.tables.specs.Views.{coresOf, pagesOf, userMode}
 use Rattle.tlb.specs.Walks.{set-d}
 use Rattle.steps.specs.declared.Answer.{Answer}
 use Rattle.steps.specs.declared.Answer.the-variants.{Done, Interrupt, Refused}
-use Rattle.steps.specs.Form.{word}
+use Rattle.steps.specs.Form.{word, countAt}
 use Rattle.machine.specs.Step as operation
 use Rattle.reach.specs.Lists.{range, has, select}
 use Rattle.reach.specs.Reach.{members, mapFor}
@@ -165,3 +166,12 @@ Promised g M =
 
 abbrev pub Demand3 : Type 0
 Demand3 = (g : ℕ) (M : Machine) → Given M → verdict g M ≡ Yes → Promised g M
+
+-- ---- Whose refusals, on any tables, sound or not, and for calls of any kind and length
+
+pub record Refusals : Type 0 where
+  -- Whose refusal it is agrees with whose step it is: a core whose own word counts it is in the group exactly where the step is the group's.
+  pub agrees : (g n k : ℕ) (s : List ℕ) → countAt n s ≡ blockAt k + ownRefusals → isOwn g s ≡ isSet g k
+  -- A refused step of a core outside the group leaves every block of the group.
+  pub unseen : (g : ℕ) (t m s : List ℕ) (number : ℕ) → operation.step t m s .answer ≡ Refused number → isOwn g s ≡ false
+      → (k : ℕ) → isSet g k ≡ true → block (operation.step t m s .tables) k ≡ block t k

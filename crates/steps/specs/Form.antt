@@ -6,6 +6,7 @@ use Prim.Native.Nat.{ℕ, _+_, _^_}
 use lib.Dec.{eqb, ltb}
 use lib.ListN.{length, getD}
 use Rattle.word.specs.Word.{if_then_else_}
+use Rattle.layout.specs.Layout.{blockAt, refusals, ownRefusals}
 use Rattle.records.specs.declared.Walk.{Walk}
 use Rattle.steps.specs.declared.Step.{Step}
 use Rattle.steps.specs.declared.Step.the-variants.{Core, TlbCreate, TlbExtend, TlbAccessed, StoreBuffer, SendIpi, SendEoi, InitCore, StartCore, Sample, Deliver, SetLine, NotAStep}
@@ -65,3 +66,13 @@ stepOf n s =
     else if ltb (word s 0) 12 then orNot (ltb (word s 1) lineCount) (stepOfLine (word s 0) (word s 1) s)
     else NotAStep)
     else NotAStep
+
+-- ---- whose refusals (02, 'Whose refusals?')
+
+-- six words of kind 0 to 8 that name one of n cores, whatever their other words are
+abbrev pub namesCore : ℕ → List ℕ → Bool
+namesCore n s = eqb (length s) 6 && (ltb (word s 0) 9 && ltb (word s 1) n)
+
+-- the word of the tables of n cores that counts a refusal of the words s: that core's, and the header's for all the rest
+unfoldable pub countAt : ℕ → List ℕ → ℕ
+countAt n s = if namesCore n s then blockAt (word s 1) + ownRefusals else refusals

@@ -4,7 +4,7 @@ ghost use mathlib.Core.Path.{_≡_};
 ghost use Prim.Native.Nat.{_<_, _^_};
 ghost use lib.ListN.{length};
 ghost use Rattle.steps.specs.Answers.{answerNumber};
-ghost use Rattle.steps.specs.Form as f;
+ghost use Rattle.steps.specs.Form as form;
 
 pub enum Step {
     // The fetch walk and the data walk.
@@ -46,7 +46,7 @@ pub fn answer_number(a: Answer) -> u32
 
 fn walk_at(s: &[u32], i: usize) -> Walk
     requires { ⌜ (length (now s) ≡ 6) × (i < 5) ⌝ }
-    ensures { λ r. ⌜ r ≡ f.walkAt (now (s .entry)) i ⌝ }
+    ensures { λ r. ⌜ r ≡ form.walkAt (now (s .entry)) i ⌝ }
 {
     Walk {
         first: s[i],
@@ -58,41 +58,41 @@ fn walk_at(s: &[u32], i: usize) -> Walk
 
 fn zero5(s: &[u32]) -> bool
     requires { ⌜ length (now s) ≡ 6 ⌝ }
-    ensures { λ r. ⌜ r ≡ f.zero5 (now (s .entry)) ⌝ }
+    ensures { λ r. ⌜ r ≡ form.zero5 (now (s .entry)) ⌝ }
 {
     s[5] == 0
 }
 
 fn zero4(s: &[u32]) -> bool
     requires { ⌜ length (now s) ≡ 6 ⌝ }
-    ensures { λ r. ⌜ r ≡ f.zero4 (now (s .entry)) ⌝ }
+    ensures { λ r. ⌜ r ≡ form.zero4 (now (s .entry)) ⌝ }
 {
     (s[4] == 0) & zero5(s)
 }
 
 fn zero3(s: &[u32]) -> bool
     requires { ⌜ length (now s) ≡ 6 ⌝ }
-    ensures { λ r. ⌜ r ≡ f.zero3 (now (s .entry)) ⌝ }
+    ensures { λ r. ⌜ r ≡ form.zero3 (now (s .entry)) ⌝ }
 {
     (s[3] == 0) & zero4(s)
 }
 
 fn zero2(s: &[u32]) -> bool
     requires { ⌜ length (now s) ≡ 6 ⌝ }
-    ensures { λ r. ⌜ r ≡ f.zero2 (now (s .entry)) ⌝ }
+    ensures { λ r. ⌜ r ≡ form.zero2 (now (s .entry)) ⌝ }
 {
     (s[2] == 0) & zero3(s)
 }
 
 fn or_not(t: bool, s: Step) -> Step
-    ensures { λ r. ⌜ r ≡ f.orNot t s ⌝ }
+    ensures { λ r. ⌜ r ≡ form.orNot t s ⌝ }
 {
     if t { s } else { Step::NotAStep }
 }
 
 fn core_step(kind: u32, k: u32, s: &[u32]) -> Step
     requires { ⌜ length (now s) ≡ 6 ⌝ }
-    ensures { λ r. ⌜ r ≡ f.stepOfCore kind k (now (s .entry)) ⌝ }
+    ensures { λ r. ⌜ r ≡ form.stepOfCore kind k (now (s .entry)) ⌝ }
 {
     match kind {
         0 => Step::Core(k, walk_at(s, 2), walk_at(s, 4)),
@@ -109,7 +109,7 @@ fn core_step(kind: u32, k: u32, s: &[u32]) -> Step
 
 fn line_step(kind: u32, n: u32, s: &[u32]) -> Step
     requires { ⌜ length (now s) ≡ 6 ⌝ }
-    ensures { λ r. ⌜ r ≡ f.stepOfLine kind n (now (s .entry)) ⌝ }
+    ensures { λ r. ⌜ r ≡ form.stepOfLine kind n (now (s .entry)) ⌝ }
 {
     match kind {
         9 => or_not(zero2(s), Step::Sample(n)),
@@ -120,7 +120,7 @@ fn line_step(kind: u32, n: u32, s: &[u32]) -> Step
 
 // The step that the words say, for a machine of so many cores.
 pub fn parse(cores: u32, s: &[u32]) -> Step
-    ensures { λ r. ⌜ r ≡ f.stepOf cores (now (s .entry)) ⌝ }
+    ensures { λ r. ⌜ r ≡ form.stepOf cores (now (s .entry)) ⌝ }
 {
     if s.len() != 6 {
         return Step::NotAStep;
@@ -134,4 +134,18 @@ pub fn parse(cores: u32, s: &[u32]) -> Step
         return or_not(at < 24, line_step(kind, at, s));
     }
     Step::NotAStep
+}
+
+// The word of the tables that counts a refusal of these words, for a machine of so many cores: that of the core which
+// a step of kind 0 to 8 names, well formed or not, and the header's for all the rest.
+pub fn count_at(cores: u32, s: &[u32]) -> usize
+    ensures { λ r. ⌜ r ≡ form.countAt cores (now (s .entry)) ⌝ }
+{
+    if s.len() != 6 {
+        return layout::REFUSALS;
+    }
+    if (s[0] < 9) & (s[1] < cores) {
+        return layout::block_at(s[1]) + layout::OWN_REFUSALS;
+    }
+    layout::REFUSALS
 }

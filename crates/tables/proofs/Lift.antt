@@ -15,8 +15,9 @@ use Rattle.records.proofs.Counts.{either}
 use Rattle.layout.specs.Blocks.{block, withBlock}
 use Rattle.tables.specs.Views.{coresOf, pagesOf, linesOf}
 use Rattle.tables.specs.Sound.{soundBlock, sound}
-use Rattle.layout.proofs.Blocks.{block-long, with-long, with-block, with-other, with-header, set-block}
+use Rattle.layout.proofs.Blocks.{block-long, with-long, with-block, with-other, with-header, set-block, set-own}
 use Rattle.tables.proofs.Parts.{Header, header-of, of-header, blocks-elim, blocks-intro, sound-header, sound-blocks, of-sound}
+use Rattle.tables.proofs.Places.{set-sound, count-allowed}
 
 -- ---- what sound tables have
 
@@ -81,6 +82,15 @@ module _ (t : List ℕ) (n : ℕ) (e : sound t n ≡ true) where
     where
       other : (j : ℕ) → j ≢ i → getD (set t i v) j 0 ≡ getD t j 0
       other j d = getD-set-other t i j v 0 d
+
+  -- another refusal count of a core
+  pub set-count-sound : (k v : ℕ) → k < coresOf t → sound (set t (at.blockAt k + at.ownRefusals) v) n ≡ true
+  set-count-sound k v h =
+      let fits = core-fits t n e k h in
+      let long = core-long t n e k h in
+      ap (λ (u : List ℕ). sound u n) (set-own t k at.ownRefusals v fits (omega arith))
+      ∙ with-sound k (set (block t k) at.ownRefusals v) h (length-set (block t k) at.ownRefusals v ∙ long)
+      (set-sound (block t k) at.ownRefusals v (count-allowed v) n long (core-sound t n e k h))
 
   -- other lines
   pub set-lines-sound : (v : ℕ) → v < 2 ^ 24 → sound (set t at.lines v) n ≡ true

@@ -109,6 +109,11 @@ any-allowed i v (inl p) =
 any-allowed i v (inr p) =
     record { low = omega arith; no-head = inr (omega arith); zero-register = λ e. omega arith; gap = λ e. omega arith; rest = λ e. omega arith; running = λ e. omega arith; sipirr = λ e. omega arith; initrr = λ e. omega arith; vector = λ e. omega arith }
 
+-- and the refusal count
+pub count-allowed : (v : ℕ) → Allowed at.ownRefusals v
+count-allowed v =
+    record { low = omega arith; no-head = inr (omega arith); zero-register = λ e. omega arith; gap = λ e. omega arith; rest = λ e. omega arith; running = λ e. omega arith; sipirr = λ e. omega arith; initrr = λ e. omega arith; vector = λ e. omega arith }
+
 module _ (b : List ℕ) (i v : ℕ) (A : Allowed i v) where
   pub set-same : Alike b (set b i v)
   set-same =

@@ -77,3 +77,8 @@ sipivectOf b = getD b at.sipivect 0
 
 abbrev pub initrrOf : List ℕ → ℕ
 initrrOf b = getD b at.initrr 0
+
+-- ---- the refusal count of a block
+
+abbrev pub ownRefusalsOf : List ℕ → ℕ
+ownRefusalsOf b = getD b at.ownRefusals 0

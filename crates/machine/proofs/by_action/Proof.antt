@@ -7,9 +7,8 @@ use lib.ListN.{length}
 use native.Mathlib.Omega.{arith}
 use Rattle.machine.specs.Actions.{answerOf}
 use Rattle.machine.specs.Decide.{byStep}
-use Rattle.machine.proofs.Fitting.{header-words}
 use Rattle.machine.proofs.Deciding.{step-doable, no-plan}
-use Rattle.machine.proofs.Taking.{settled-accepted, settled-refused}
+use Rattle.machine.proofs.Taking.{tried-accepted, tried-refused}
 
 action-requires : tie.Need-action-requires
 action-requires c κs = search needs
@@ -30,10 +29,7 @@ same-length-2 : tie.Need-same-length-2
 same-length-2 c = search needs
 
 returns : tie.Need-returns
-returns c = let x = settled-accepted (now (c .before .before .before .before .before .before .before .before .before .before .before .before .before .before .before .args .t)) (now (c .before .before .before .before .before .before .before .before .before .before .before .before .before .before .before .args .m)) (byStep (now (c .before .before .before .before .before .before .before .before .before .before .before .before .before .before .before .args .t)) (now (c .before .before .before .before .before .before .before .before .before .before .before .before .before .before .before .args .m)) (c .before .before .before .before .before .before .before .before .before .before .before .before .before .before .before .args .p)) _ (sym (c .before .before .before .before .before .before .before .before .is-accepted .ensures) ∙ c .before .before .before .before .before .before .before .if1 .taken) (c .before .before .before .before .before .before .before .before .before .answer .ensures ∙ ap answerOf (c .before .before .before .before .before .before .before .before .before .before .action .ensures)) in (x .0, (c .before .before .before .before .commit .ensures .0 ∙ rw (c .before .before .before .before .before .before .before .before .before .before .action .ensures) (x .1), c .before .before .before .before .commit .ensures .1 ∙ rw (c .before .before .before .before .before .before .before .before .before .before .action .ensures) (x .2)))
-
-count-requires : tie.Need-count-requires
-count-requires c κs = let h = header-words (now (c .before .before .before .before .before .before .before .before .before .args .t)) (length (now (c .before .before .before .before .before .before .before .before .before .args .m))) (c .before .before .before .before .before .before .before .before .before .pre .0) in omega (arith, h)
+returns c = let x = tried-accepted (now (c .before .before .before .before .before .before .before .before .before .before .before .before .before .before .before .args .t)) (now (c .before .before .before .before .before .before .before .before .before .before .before .before .before .before .before .args .m)) (byStep (now (c .before .before .before .before .before .before .before .before .before .before .before .before .before .before .before .args .t)) (now (c .before .before .before .before .before .before .before .before .before .before .before .before .before .before .before .args .m)) (c .before .before .before .before .before .before .before .before .before .before .before .before .before .before .before .args .p)) _ (sym (c .before .before .before .before .before .before .before .before .is-accepted .ensures) ∙ c .before .before .before .before .before .before .before .if1 .taken) (c .before .before .before .before .before .before .before .before .before .answer .ensures ∙ ap answerOf (c .before .before .before .before .before .before .before .before .before .before .action .ensures)) in (x .0, (c .before .before .before .before .commit .ensures .0 ∙ rw (c .before .before .before .before .before .before .before .before .before .before .action .ensures) (x .1), c .before .before .before .before .commit .ensures .1 ∙ rw (c .before .before .before .before .before .before .before .before .before .before .action .ensures) (x .2)))
 
 same-length-3 : tie.Need-same-length-3
 same-length-3 c = search needs
@@ -42,7 +38,7 @@ same-length-4 : tie.Need-same-length-4
 same-length-4 c = search needs
 
 returns-2 : tie.Need-returns-2
-returns-2 c = let x = settled-refused (now (c .before .before .before .before .before .before .before .before .before .before .before .before .args .t)) (now (c .before .before .before .before .before .before .before .before .before .before .before .before .args .m)) (byStep (now (c .before .before .before .before .before .before .before .before .before .before .before .before .args .t)) (now (c .before .before .before .before .before .before .before .before .before .before .before .before .args .m)) (c .before .before .before .before .before .before .before .before .before .before .before .before .args .p)) _ (sym (c .before .before .before .before .before .is-accepted .ensures) ∙ c .before .before .before .before .if1 .left) (c .before .before .before .before .before .before .answer .ensures ∙ ap answerOf (c .before .before .before .before .before .before .before .action .ensures)) in (x .0, (c .before .before .count .ensures ∙ x .1, x .2))
+returns-2 c = let x = tried-refused (now (c .before .before .before .before .before .before .before .before .args .t)) (now (c .before .before .before .before .before .before .before .before .args .m)) (byStep (now (c .before .before .before .before .before .before .before .before .args .t)) (now (c .before .before .before .before .before .before .before .before .args .m)) (c .before .before .before .before .before .before .before .before .args .p)) _ (sym (c .before .is-accepted .ensures) ∙ c .if1 .left) (c .before .before .answer .ensures ∙ ap answerOf (c .before .before .before .action .ensures)) in (x .0, (x .1, x .2))
 
 pub by-action-spec : {M : Type 1} → statement M
 by-action-spec =
@@ -55,7 +51,6 @@ by-action-spec =
     same-length
     same-length-2
     returns
-    count-requires
     same-length-3
     same-length-4
     returns-2)

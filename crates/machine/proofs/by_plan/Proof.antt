@@ -8,9 +8,9 @@ use native.Mathlib.Omega.{arith}
 use Rattle.tables.specs.Views.{coresOf}
 use Rattle.machine.specs.Actions.{answerOf, tablesAfter, memoryAfter}
 use Rattle.machine.specs.Decide.{byStep}
-use Rattle.machine.proofs.Fitting.{header-words, has, chains, planned-asks}
+use Rattle.machine.proofs.Fitting.{has, chains, planned-asks}
 use Rattle.machine.proofs.Deciding.{step-doable}
-use Rattle.machine.proofs.Taking.{settled-accepted, settled-refused}
+use Rattle.machine.proofs.Taking.{tried-accepted, tried-refused}
 
 core-of-requires : tie.Need-core-of-requires
 core-of-requires c κs = search needs
@@ -32,10 +32,7 @@ same-length-2 c = search needs
 
 returns : tie.Need-returns
 unfolding tablesAfter memoryAfter
-returns c = let x = settled-accepted (now (c .before .before .before .before .before .before .before .before .before .before .before .before .before .before .before .args .t)) (now (c .before .before .before .before .before .before .before .before .before .before .before .before .before .before .before .args .m)) (byStep (now (c .before .before .before .before .before .before .before .before .before .before .before .before .before .before .before .args .t)) (now (c .before .before .before .before .before .before .before .before .before .before .before .before .before .before .before .args .m)) (c .before .before .before .before .before .before .before .before .before .before .before .before .before .before .before .args .p)) _ (sym (c .before .before .before .before .before .before .before .before .is-accepted .ensures) ∙ c .before .before .before .before .before .before .before .if1 .taken) (ap answerOf (c .before .before .before .before .before .before .before .before .before .plan .ensures)) in (x .0, (rw (c .before .before .before .before .commit .ensures .0, c .before .before .before .before .before .before .before .before .before .before .before .before .core-of .ensures) (ap (λ a. tablesAfter a (now (c .before .before .before .before .before .before .before .before .before .before .before .before .before .before .before .args .t))) (c .before .before .before .before .before .before .before .before .before .plan .ensures) ∙ x .1), rw (c .before .before .before .before .commit .ensures .1) (ap (λ a. memoryAfter a (now (c .before .before .before .before .before .before .before .before .before .before .before .before .before .before .before .args .m))) (c .before .before .before .before .before .before .before .before .before .plan .ensures) ∙ x .2)))
-
-count-requires : tie.Need-count-requires
-count-requires c κs = let h = header-words (now (c .before .before .before .before .before .before .before .before .before .args .t)) (length (now (c .before .before .before .before .before .before .before .before .before .args .m))) (c .before .before .before .before .before .before .before .before .before .pre .0) in omega (arith, h)
+returns c = let x = tried-accepted (now (c .before .before .before .before .before .before .before .before .before .before .before .before .before .before .before .args .t)) (now (c .before .before .before .before .before .before .before .before .before .before .before .before .before .before .before .args .m)) (byStep (now (c .before .before .before .before .before .before .before .before .before .before .before .before .before .before .before .args .t)) (now (c .before .before .before .before .before .before .before .before .before .before .before .before .before .before .before .args .m)) (c .before .before .before .before .before .before .before .before .before .before .before .before .before .before .before .args .p)) _ (sym (c .before .before .before .before .before .before .before .before .is-accepted .ensures) ∙ c .before .before .before .before .before .before .before .if1 .taken) (ap answerOf (c .before .before .before .before .before .before .before .before .before .plan .ensures)) in (x .0, (rw (c .before .before .before .before .commit .ensures .0, c .before .before .before .before .before .before .before .before .before .before .before .before .core-of .ensures) (ap (λ a. tablesAfter a (now (c .before .before .before .before .before .before .before .before .before .before .before .before .before .before .before .args .t))) (c .before .before .before .before .before .before .before .before .before .plan .ensures) ∙ x .1), rw (c .before .before .before .before .commit .ensures .1) (ap (λ a. memoryAfter a (now (c .before .before .before .before .before .before .before .before .before .before .before .before .before .before .before .args .m))) (c .before .before .before .before .before .before .before .before .before .plan .ensures) ∙ x .2)))
 
 same-length-3 : tie.Need-same-length-3
 same-length-3 c = search needs
@@ -44,7 +41,7 @@ same-length-4 : tie.Need-same-length-4
 same-length-4 c = search needs
 
 returns-2 : tie.Need-returns-2
-returns-2 c = let x = settled-refused (now (c .before .before .before .before .before .before .before .before .before .before .before .before .args .t)) (now (c .before .before .before .before .before .before .before .before .before .before .before .before .args .m)) (byStep (now (c .before .before .before .before .before .before .before .before .before .before .before .before .args .t)) (now (c .before .before .before .before .before .before .before .before .before .before .before .before .args .m)) (c .before .before .before .before .before .before .before .before .before .before .before .before .args .p)) _ (sym (c .before .before .before .before .before .is-accepted .ensures) ∙ c .before .before .before .before .if1 .left) (ap answerOf (c .before .before .before .before .before .before .plan .ensures)) in (x .0, (c .before .before .count .ensures ∙ x .1, x .2))
+returns-2 c = let x = tried-refused (now (c .before .before .before .before .before .before .before .before .args .t)) (now (c .before .before .before .before .before .before .before .before .args .m)) (byStep (now (c .before .before .before .before .before .before .before .before .args .t)) (now (c .before .before .before .before .before .before .before .before .args .m)) (c .before .before .before .before .before .before .before .before .args .p)) _ (sym (c .before .is-accepted .ensures) ∙ c .if1 .left) (ap answerOf (c .before .before .plan .ensures)) in (x .0, (x .1, x .2))
 
 pub by-plan-spec : {M : Type 1} → statement M
 by-plan-spec =
@@ -57,7 +54,6 @@ by-plan-spec =
     same-length
     same-length-2
     returns
-    count-requires
     same-length-3
     same-length-4
     returns-2)

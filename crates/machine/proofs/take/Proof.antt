@@ -7,7 +7,6 @@ use lib.ListN.{length}
 use native.Mathlib.Omega.{arith}
 use Rattle.tables.specs.Views.{coresOf}
 use Rattle.machine.specs.Decide.{decided}
-use Rattle.machine.specs.Step.{taken}
 use Rattle.machine.proofs.Fitting.{header-words}
 use Rattle.machine.proofs.Forms.{step-formed}
 
@@ -30,7 +29,7 @@ same-length-2 : tie.Need-same-length-2
 same-length-2 c = search needs
 
 returns : tie.Need-returns
-unfolding taken decided
+unfolding decided
 returns c = (rw (c .before .before .before .before .by-plan .ensures .0, c .before .before .before .before .before .before .before .before .before .parse .ensures) refl, (rw (c .before .before .before .before .by-plan .ensures .1 .0, c .before .before .before .before .before .before .before .before .before .parse .ensures) refl, rw (c .before .before .before .before .by-plan .ensures .1 .1, c .before .before .before .before .before .before .before .before .before .parse .ensures) refl))
 
 by-action-requires : tie.Need-by-action-requires
@@ -43,7 +42,7 @@ same-length-4 : tie.Need-same-length-4
 same-length-4 c = search needs
 
 returns-2 : tie.Need-returns-2
-unfolding taken decided
+unfolding decided
 returns-2 c = (rw (c .before .before .before .before .by-action .ensures .0, c .before .before .before .before .before .before .before .before .before .parse .ensures) refl, (rw (c .before .before .before .before .by-action .ensures .1 .0, c .before .before .before .before .before .before .before .before .before .parse .ensures) refl, rw (c .before .before .before .before .by-action .ensures .1 .1, c .before .before .before .before .before .before .before .before .before .parse .ensures) refl))
 
 pub take-spec : {M : Type 1} → statement M

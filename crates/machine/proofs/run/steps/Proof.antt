@@ -3,10 +3,13 @@ use Rattle.machine.proofs.run.steps.Tie as tie
 use mathlib.Core.Path.{sym, _∙_, ap, refl, _≡_}
 use denote.Ref.{now}
 use native.Mathlib.Omega.{arith}
-use Prim.Native.Nat.{_-_}
+use Prim.Native.Nat.{_+_, _-_}
 use lib.ListN.{length}
 use borrow.Author.Tests.{not-true, not-false}
+use Rattle.machine.specs.Decide.{decided}
 use Rattle.machine.specs.Step.{taken}
+use Rattle.machine.proofs.Fitting.{header-words, count-there}
+use Rattle.machine.proofs.Taking.{tried-still, counts-accepted, counts-refused}
 use Rattle.machine.proofs.Running.{Running, begins, few-accepted, ends, room, spent, refused-there, accepted-there, same-result, six}
 
 abbrev Inv-loop : tie.InvT-loop
@@ -52,6 +55,21 @@ take-requires c κs = (c .before .before .before .before .before .loop .inv .0) 
 is-accepted-requires : tie.Need-is-accepted-requires Inv-loop μ-loop
 is-accepted-requires c κs = tt
 
+mul-count : tie.Need-mul-count Inv-loop μ-loop
+mul-count c = let h = room (c .before .before .before .before .before .before .before .before .before .before .before .before .before .loop .inv .0) (c .before .before .before .before .before .before .before .before .before .before .before .before .loop-test .taken) in omega (arith, h)
+
+sub-count : tie.Need-sub-count Inv-loop μ-loop
+sub-count c = let h = room (c .before .before .before .before .before .before .before .before .before .before .before .before .before .loop .inv .0) (c .before .before .before .before .before .before .before .before .before .before .before .before .loop-test .taken) in omega (arith, h)
+
+part-count-start : tie.Need-part-count-start Inv-loop μ-loop
+part-count-start c = let h = room (c .before .before .before .before .before .before .before .before .before .before .before .before .before .loop .inv .0) (c .before .before .before .before .before .before .before .before .before .before .before .before .loop-test .taken) in omega (arith, h)
+
+part-count-end : tie.Need-part-count-end Inv-loop μ-loop
+part-count-end c = let h = room (c .before .before .before .before .before .before .before .before .before .before .before .before .before .loop .inv .0) (c .before .before .before .before .before .before .before .before .before .before .before .before .loop-test .taken) in omega (arith, h)
+
+count-requires : tie.Need-count-requires Inv-loop μ-loop
+count-requires c κs = let e = (c .before .before .before .before .before .before .before .before .before .before .before .before .before .before .loop .inv .0) .stays-sound in rw (c .before .before .before .before .before .before .before .before .take .ensures .1 .0 ∙ tried-still ((c .before .before .before .before .before .before .before .before .before .before .before .before .before .before .loop) .t) ((c .before .before .before .before .before .before .before .before .before .before .before .before .before .before .loop) .m) (decided ((c .before .before .before .before .before .before .before .before .before .before .before .before .before .before .loop) .t) ((c .before .before .before .before .before .before .before .before .before .before .before .before .before .before .loop) .m) (lib.ListN.take (((c .before .before .before .before .before .before .before .before .before .before .before .before .before .before .loop) .i) + 6 - ((c .before .before .before .before .before .before .before .before .before .before .before .before .before .before .loop) .i)) (lib.ListN.drop ((c .before .before .before .before .before .before .before .before .before .before .before .before .before .before .loop) .i) (now (c .before .before .before .before .before .before .before .before .before .before .before .before .before .before .before .before .before .before .args .schedule))))) (c .before .before .before .before .before .before .before .before .take .ensures .0) (sym (c .before .before .before .is-accepted .ensures) ∙ not-true _ (c .before .before .if2 .taken))) (let h = header-words ((c .before .before .before .before .before .before .before .before .before .before .before .before .before .before .loop) .t) (length ((c .before .before .before .before .before .before .before .before .before .before .before .before .before .before .loop) .m)) e in omega (arith, h), count-there ((c .before .before .before .before .before .before .before .before .before .before .before .before .before .before .loop) .t) (length ((c .before .before .before .before .before .before .before .before .before .before .before .before .before .before .loop) .m)) e (lib.ListN.take (((c .before .before .before .before .before .before .before .before .before .before .before .before .before .before .loop) .i) + 6 - ((c .before .before .before .before .before .before .before .before .before .before .before .before .before .before .loop) .i)) (lib.ListN.drop ((c .before .before .before .before .before .before .before .before .before .before .before .before .before .before .loop) .i) (now (c .before .before .before .before .before .before .before .before .before .before .before .before .before .before .before .before .before .before .args .schedule)))))
+
 stop-of-requires : tie.Need-stop-of-requires Inv-loop μ-loop
 stop-of-requires c κs = tt
 
@@ -59,13 +77,13 @@ result-requires-2 : tie.Need-result-requires-2 Inv-loop μ-loop
 result-requires-2 c κs = tt
 
 same-length-3 : tie.Need-same-length-3 Inv-loop μ-loop
-same-length-3 c = c .before .before .before .before .before .before .before .before .take .kept .0 ∙ c .before .before .before .before .before .before .before .before .before .before .before .before .before .before .loop .inv .1 .0
+same-length-3 c = c .before .before .before .before .count .kept .0 ∙ c .before .before .before .before .before .before .before .before .before .before .before .before .before .take .kept .0 ∙ c .before .before .before .before .before .before .before .before .before .before .before .before .before .before .before .before .before .before .before .loop .inv .1 .0
 
 same-length-4 : tie.Need-same-length-4 Inv-loop μ-loop
-same-length-4 c = c .before .before .before .before .before .before .before .before .take .kept .1 .0 ∙ c .before .before .before .before .before .before .before .before .before .before .before .before .before .before .loop .inv .1 .1
+same-length-4 c = c .before .before .before .before .before .before .before .before .before .before .before .before .before .take .kept .1 .0 ∙ c .before .before .before .before .before .before .before .before .before .before .before .before .before .before .before .before .before .before .before .loop .inv .1 .1
 
 returns-2 : tie.Need-returns-2 Inv-loop μ-loop
-returns-2 c = same-result (c .result2 .ensures .0, c .result2 .ensures .1 ∙ c .before .stop-of .ensures) refl refl (refused-there (c .before .before .before .before .before .before .before .before .before .before .before .before .before .before .loop .inv .0) (c .before .before .before .before .before .before .before .before .before .before .before .before .before .loop-test .taken) (c .before .before .before .before .before .before .before .before .before .before .before .before .if1 .left) _ _ _ (c .before .before .before .before .before .before .before .before .take .ensures .0 ∙ ap (λ k. taken ((c .before .before .before .before .before .before .before .before .before .before .before .before .before .before .loop) .t) ((c .before .before .before .before .before .before .before .before .before .before .before .before .before .before .loop) .m) (lib.ListN.take k (lib.ListN.drop ((c .before .before .before .before .before .before .before .before .before .before .before .before .before .before .loop) .i) (now (c .before .before .before .before .before .before .before .before .before .before .before .before .before .before .before .before .before .before .args .schedule)))) .answer) (six ((c .before .before .before .before .before .before .before .before .before .before .before .before .before .before .loop) .i))) (c .before .before .before .before .before .before .before .before .take .ensures .1 .0 ∙ ap (λ k. taken ((c .before .before .before .before .before .before .before .before .before .before .before .before .before .before .loop) .t) ((c .before .before .before .before .before .before .before .before .before .before .before .before .before .before .loop) .m) (lib.ListN.take k (lib.ListN.drop ((c .before .before .before .before .before .before .before .before .before .before .before .before .before .before .loop) .i) (now (c .before .before .before .before .before .before .before .before .before .before .before .before .before .before .before .before .before .before .args .schedule)))) .tables) (six ((c .before .before .before .before .before .before .before .before .before .before .before .before .before .before .loop) .i))) (c .before .before .before .before .before .before .before .before .take .ensures .1 .1 ∙ ap (λ k. taken ((c .before .before .before .before .before .before .before .before .before .before .before .before .before .before .loop) .t) ((c .before .before .before .before .before .before .before .before .before .before .before .before .before .before .loop) .m) (lib.ListN.take k (lib.ListN.drop ((c .before .before .before .before .before .before .before .before .before .before .before .before .before .before .loop) .i) (now (c .before .before .before .before .before .before .before .before .before .before .before .before .before .before .before .before .before .before .args .schedule)))) .memory) (six ((c .before .before .before .before .before .before .before .before .before .before .before .before .before .before .loop) .i))) (sym (c .before .before .before .is-accepted .ensures) ∙ not-true _ (c .before .before .if2 .taken)))
+returns-2 c = let y = c .before .before .before .before .before .before .before .before .before .before .before .before .before .take .ensures in let q = sym (c .before .before .before .before .before .before .before .before .is-accepted .ensures) ∙ not-true _ (c .before .before .before .before .before .before .before .if2 .taken) in let z = counts-refused _ _ _ _ _ _ (y .0, y .1 .0, y .1 .1) q in same-result (c .result2 .ensures .0, c .result2 .ensures .1 ∙ c .before .stop-of .ensures) refl refl (refused-there (c .before .before .before .before .before .before .before .before .before .before .before .before .before .before .before .before .before .before .before .loop .inv .0) (c .before .before .before .before .before .before .before .before .before .before .before .before .before .before .before .before .before .before .loop-test .taken) (c .before .before .before .before .before .before .before .before .before .before .before .before .before .before .before .before .before .if1 .left) _ _ _ (z .0 ∙ ap (λ k. taken ((c .before .before .before .before .before .before .before .before .before .before .before .before .before .before .before .before .before .before .before .loop) .t) ((c .before .before .before .before .before .before .before .before .before .before .before .before .before .before .before .before .before .before .before .loop) .m) (lib.ListN.take k (lib.ListN.drop ((c .before .before .before .before .before .before .before .before .before .before .before .before .before .before .before .before .before .before .before .loop) .i) (now (c .before .before .before .before .before .before .before .before .before .before .before .before .before .before .before .before .before .before .before .before .before .before .before .args .schedule)))) .answer) (six ((c .before .before .before .before .before .before .before .before .before .before .before .before .before .before .before .before .before .before .before .loop) .i))) (c .before .before .before .before .count .ensures ∙ z .1 ∙ ap (λ k. taken ((c .before .before .before .before .before .before .before .before .before .before .before .before .before .before .before .before .before .before .before .loop) .t) ((c .before .before .before .before .before .before .before .before .before .before .before .before .before .before .before .before .before .before .before .loop) .m) (lib.ListN.take k (lib.ListN.drop ((c .before .before .before .before .before .before .before .before .before .before .before .before .before .before .before .before .before .before .before .loop) .i) (now (c .before .before .before .before .before .before .before .before .before .before .before .before .before .before .before .before .before .before .before .before .before .before .before .args .schedule)))) .tables) (six ((c .before .before .before .before .before .before .before .before .before .before .before .before .before .before .before .before .before .before .before .loop) .i))) (z .2 ∙ ap (λ k. taken ((c .before .before .before .before .before .before .before .before .before .before .before .before .before .before .before .before .before .before .before .loop) .t) ((c .before .before .before .before .before .before .before .before .before .before .before .before .before .before .before .before .before .before .before .loop) .m) (lib.ListN.take k (lib.ListN.drop ((c .before .before .before .before .before .before .before .before .before .before .before .before .before .before .before .before .before .before .before .loop) .i) (now (c .before .before .before .before .before .before .before .before .before .before .before .before .before .before .before .before .before .before .before .before .before .before .before .args .schedule)))) .memory) (six ((c .before .before .before .before .before .before .before .before .before .before .before .before .before .before .before .before .before .before .before .loop) .i))) q)
 
 add-accepted : tie.Need-add-accepted Inv-loop μ-loop
 add-accepted c = let h = few-accepted (c .before .before .before .before .before .before .before .before .before .before .before .before .loop .inv .0) in omega (arith, h)
@@ -74,7 +92,7 @@ loop-less : tie.Need-loop-less Inv-loop μ-loop
 loop-less c = omega (arith, c .before .before .before .before .before .before .before .before .before .before .before .loop-test .taken)
 
 loop-again : tie.Need-loop-again Inv-loop μ-loop
-loop-again c = (accepted-there (c .before .before .before .before .before .before .before .before .before .before .before .before .loop .inv .0) (c .before .before .before .before .before .before .before .before .before .before .before .loop-test .taken) (c .before .before .before .before .before .before .before .before .before .before .if1 .left) _ _ _ (c .before .before .before .before .before .before .take .ensures .0 ∙ ap (λ k. taken ((c .before .before .before .before .before .before .before .before .before .before .before .before .loop) .t) ((c .before .before .before .before .before .before .before .before .before .before .before .before .loop) .m) (lib.ListN.take k (lib.ListN.drop ((c .before .before .before .before .before .before .before .before .before .before .before .before .loop) .i) (now (c .before .before .before .before .before .before .before .before .before .before .before .before .before .before .before .before .args .schedule)))) .answer) (six ((c .before .before .before .before .before .before .before .before .before .before .before .before .loop) .i))) (c .before .before .before .before .before .before .take .ensures .1 .0 ∙ ap (λ k. taken ((c .before .before .before .before .before .before .before .before .before .before .before .before .loop) .t) ((c .before .before .before .before .before .before .before .before .before .before .before .before .loop) .m) (lib.ListN.take k (lib.ListN.drop ((c .before .before .before .before .before .before .before .before .before .before .before .before .loop) .i) (now (c .before .before .before .before .before .before .before .before .before .before .before .before .before .before .before .before .args .schedule)))) .tables) (six ((c .before .before .before .before .before .before .before .before .before .before .before .before .loop) .i))) (c .before .before .before .before .before .before .take .ensures .1 .1 ∙ ap (λ k. taken ((c .before .before .before .before .before .before .before .before .before .before .before .before .loop) .t) ((c .before .before .before .before .before .before .before .before .before .before .before .before .loop) .m) (lib.ListN.take k (lib.ListN.drop ((c .before .before .before .before .before .before .before .before .before .before .before .before .loop) .i) (now (c .before .before .before .before .before .before .before .before .before .before .before .before .before .before .before .before .args .schedule)))) .memory) (six ((c .before .before .before .before .before .before .before .before .before .before .before .before .loop) .i))) (sym (c .before .is-accepted .ensures) ∙ not-false _ (c .if2 .left)) (λ i. omega (arith, c .before .before .before .before .slice-known3 .given i)) (λ i. omega (arith, c .before .before .slice-known4 .given i)), (c .before .before .before .before .before .before .take .kept .0 ∙ c .before .before .before .before .before .before .before .before .before .before .before .before .loop .inv .1 .0, c .before .before .before .before .before .before .take .kept .1 .0 ∙ c .before .before .before .before .before .before .before .before .before .before .before .before .loop .inv .1 .1))
+loop-again c = let y = c .before .before .before .before .before .before .take .ensures in let q = sym (c .before .is-accepted .ensures) ∙ not-false _ (c .if2 .left) in let z = counts-accepted _ _ _ _ _ _ (y .0, y .1 .0, y .1 .1) q in (accepted-there (c .before .before .before .before .before .before .before .before .before .before .before .before .loop .inv .0) (c .before .before .before .before .before .before .before .before .before .before .before .loop-test .taken) (c .before .before .before .before .before .before .before .before .before .before .if1 .left) _ _ _ (z .0 ∙ ap (λ k. taken ((c .before .before .before .before .before .before .before .before .before .before .before .before .loop) .t) ((c .before .before .before .before .before .before .before .before .before .before .before .before .loop) .m) (lib.ListN.take k (lib.ListN.drop ((c .before .before .before .before .before .before .before .before .before .before .before .before .loop) .i) (now (c .before .before .before .before .before .before .before .before .before .before .before .before .before .before .before .before .args .schedule)))) .answer) (six ((c .before .before .before .before .before .before .before .before .before .before .before .before .loop) .i))) (z .1 ∙ ap (λ k. taken ((c .before .before .before .before .before .before .before .before .before .before .before .before .loop) .t) ((c .before .before .before .before .before .before .before .before .before .before .before .before .loop) .m) (lib.ListN.take k (lib.ListN.drop ((c .before .before .before .before .before .before .before .before .before .before .before .before .loop) .i) (now (c .before .before .before .before .before .before .before .before .before .before .before .before .before .before .before .before .args .schedule)))) .tables) (six ((c .before .before .before .before .before .before .before .before .before .before .before .before .loop) .i))) (z .2 ∙ ap (λ k. taken ((c .before .before .before .before .before .before .before .before .before .before .before .before .loop) .t) ((c .before .before .before .before .before .before .before .before .before .before .before .before .loop) .m) (lib.ListN.take k (lib.ListN.drop ((c .before .before .before .before .before .before .before .before .before .before .before .before .loop) .i) (now (c .before .before .before .before .before .before .before .before .before .before .before .before .before .before .before .before .args .schedule)))) .memory) (six ((c .before .before .before .before .before .before .before .before .before .before .before .before .loop) .i))) q (λ i. omega (arith, c .before .before .before .before .slice-known3 .given i)) (λ i. omega (arith, c .before .before .slice-known4 .given i)), (c .before .before .before .before .before .before .take .kept .0 ∙ c .before .before .before .before .before .before .before .before .before .before .before .before .loop .inv .1 .0, c .before .before .before .before .before .before .take .kept .1 .0 ∙ c .before .before .before .before .before .before .before .before .before .before .before .before .loop .inv .1 .1))
 
 result-requires-3 : tie.Need-result-requires-3 Inv-loop μ-loop
 result-requires-3 c κs = tt
@@ -106,6 +124,11 @@ steps-spec =
     part-take-end
     take-requires
     is-accepted-requires
+    mul-count
+    sub-count
+    part-count-start
+    part-count-end
+    count-requires
     stop-of-requires
     result-requires-2
     same-length-3
