@@ -153,8 +153,8 @@ pub fn make(tables: &mut [u32], memory: &[u8], cores: u32) -> Result<(), u32> {
     }
 }
 
-/// Takes one step of six words. A refusal but 4 is counted: in the word [`core_refusals`] of the core that a step of kind
-/// 0 to 8 names, and in the word [`REFUSALS`] where the core is not there and for all other steps.
+/// Takes one step of six words. A refusal but 4 is counted: in the word [`core_refusals`] of the core that a step of
+/// kind 0 to 8 names, and in the word [`REFUSALS`] where that core is not there and for all other calls.
 pub fn step(tables: &mut [u32], memory: &mut [u8], step: &[u32]) -> Answer {
     // SAFETY: as in `make`.
     let n = unsafe {

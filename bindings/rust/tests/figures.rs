@@ -94,8 +94,8 @@ fn counts(machine: &Machine) -> Vec<u32> {
     std::iter::once(machine.tables[REFUSALS]).chain(own).collect()
 }
 
-/// 02, request 5: a refused step of kinds 0 to 8 counts by its core, whatever the refusal; the rest in the header. On two
-/// cores, of which core 0 runs in system mode and nothing is pending.
+/// 02, request 5: a refused step of kinds 0 to 8 counts by its core, whatever the refusal; the rest in the header. There
+/// are two cores; core 0 runs in system mode, and nothing is pending.
 #[test]
 fn whose_refusals() {
     #[rustfmt::skip]

@@ -7,9 +7,10 @@ use Rattle.report.specs.Demands.{Demand1, Demand2, Exception, Unhindered, Reset
 use Rattle.separation.specs.Separation.{Demand3, Refusals}
 
 pub record Claims : Type 0 where
-  -- For any words, bytes and step whatever: the answer is done, an interrupt of level 0 to 7 or a refusal 4 to 10, and 4 exactly where the tables are not
-  -- sound; a refusal leaves every memory byte and every word but one count, that of the core which a step of kind 0 to 8 names and the header's for all
-  -- the rest, and that count stays with 4 and else rises by one up to its largest; sound tables stay sound.
+  -- For any words, bytes and step whatever: the answer is done, an interrupt of level 0 to 7 or a refusal 4 to 10, and
+  -- 4 exactly where the tables are not sound; a refusal leaves every memory byte and every word but one count, that of
+  -- the core which a step of kind 0 to 8 names and the header's for all the rest, and that count stays with 4 and else
+  -- rises by one up to its largest; sound tables stay sound.
   pub demand1 : Demand1
   -- For sound tables and any bytes beyond memory: an accepted step does what the report's transition function does with it, and no more; every refusal
   -- has its ground. One exception: an accepted core step on a word of add, addu, addi, addiu, sub or subu does the same but for cause 7, which is by the
@@ -26,6 +27,7 @@ pub record Claims : Type 0 where
   -- run at the start, each up to its first interrupt, in which the group takes the same steps: the group gets the same answers and sees the same state after
   -- each of its steps, whatever the others hold and do; and in each list bytes that neither side can write stay, and table bytes but for accessed bits.
   pub demand3 : Demand3
-  -- The count of a core is in its block, so the above compares it too; a core whose word counts a refusal is in the group exactly where the refused step
-  -- is the group's, and a refused step of a core outside the group leaves every block of the group.
+  -- A core's count of refusals is in its block, so demand 3 compares it too. A core whose word counts a refusal is in
+  -- the group exactly where the refused step is the group's, and a refused step of a core outside the group leaves every
+  -- block of the group.
   pub refusals : Refusals

@@ -1,4 +1,5 @@
--- The parts of the header and of a block follow one another: none overlaps the next, and the fixed zeros are what is left.
+-- The parts of the header and of a block follow one another: none overlaps the next, and the fixed zeros are what is
+-- left.
 -- Assumes nothing.
 use mathlib.Core.Path.{_≡_, refl}
 use Prim.Native.Nat.{ℕ, _+_, _*_}

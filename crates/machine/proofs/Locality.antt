@@ -106,7 +106,8 @@ plain-form s h =
 
 -- ---- what a step does
 
--- a core's block after its step: as the plan says, and where it is refused with one refusal more, if the words name the core
+-- a core's block after its step: as the plan says, and where it is refused with one refusal more, if the words name
+-- the core
 abbrev pub ownAfter : Bool → Plan → Answer → List ℕ → List ℕ
 ownAfter c p r b = if isAccepted r then commit.blockAfter p b else if c then oneMore at.ownRefusals b else b
 

@@ -18,9 +18,9 @@ use Rattle.steps.specs.declared.Answer.{Answer}
 use Rattle.machine.specs.declared.run.Ran.{Ran}
 use Rattle.machine.specs.declared.run.Stop.{Stop}
 use Rattle.machine.specs.declared.run.Stop.the-variants as stop
-use Rattle.machine.specs.Step.{isAccepted, Stepped, taken, step}
+use Rattle.machine.specs.Step.{isAccepted, Stepped, step}
 use Rattle.machine.specs.Run.{Result, Is, stopsWith, stopOf, onStep, runFrom, whole, run, stopNumber}
-use Rattle.machine.proofs.Taking.{is-sound}
+use Rattle.machine.proofs.Taking.{Steps}
 use Rattle.machine.proofs.Keeping.{step-sound}
 
 -- n steps of the schedule s are accepted, and word i is the next; t and m are what they left of t₀ and m₀
@@ -91,18 +91,19 @@ module _ {s : List ℕ} {limit : ℕ} {t₀ m₀ t m : List ℕ} {i n : ℕ} (R 
       unfolding runFrom
       goes-on = ap (λ b. if b then stopsWith n stop.Limit t m else onStep next n remaining) (sym (ne-eqb n limit l)) ∙ unrolled
 
-      as-step : taken t m (take 6 (drop i s)) ≡ next
-      as-step = is-sound t m (take 6 (drop i s)) (R .stays-sound)
+      -- r, t′ and m′ are what the step leaves
+      module _ (r : Answer) (t′ m′ : List ℕ) (x : Steps t m (take (i + 6 - i) (drop i s)) r t′ m′) where
+        as-next : step t m (take (i + 6 - i) (drop i s)) ≡ next
+        as-next = let e : i + 6 - i ≡ 6 = omega arith in ap (λ (k : ℕ). step t m (take k (drop i s))) e
 
-      module _ (r : Answer) (t′ m′ : List ℕ) (a : r ≡ taken t m (take 6 (drop i s)) .answer) (b : t′ ≡ taken t m (take 6 (drop i s)) .tables) (c : m′ ≡ taken t m (take 6 (drop i s)) .memory) where
         answered : r ≡ next .answer
-        answered = a ∙ ap (λ x. x .answer) as-step
+        answered = x .0 ∙ ap (λ y. y .answer) as-next
 
         left-tables : t′ ≡ next .tables
-        left-tables = b ∙ ap (λ x. x .tables) as-step
+        left-tables = x .1 .0 ∙ ap (λ y. y .tables) as-next
 
         left-memory : m′ ≡ next .memory
-        left-memory = c ∙ ap (λ x. x .memory) as-step
+        left-memory = x .1 .1 .0 ∙ ap (λ y. y .memory) as-next
 
         pub refused-there : isAccepted r ≡ false → stopsWith n (stopOf r) t′ m′ ≡ whole-run
         refused-there f =
@@ -149,10 +150,6 @@ same-result p q q′ e =
       same-tables = q ∙ ap (λ y. y .tables) e;
       same-memory = q′ ∙ ap (λ y. y .memory) e;
     }
-
--- the words of one step
-pub six : (i : ℕ) → i + 6 - i ≡ 6
-six i = omega arith
 
 pub moved : {r : Ran} {t m : List ℕ} {x y : Result} → x ≡ y → Is r t m x → Is r t m y
 moved {r} {t} {m} e p = subst (λ z. Is r t m z) e p

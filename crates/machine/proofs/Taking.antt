@@ -3,18 +3,22 @@
 use mathlib.Core.Path.{_≡_, refl, sym, _∙_, ap}
 use mathlib.Core.Bool.{Bool, true, false}
 use mathlib.Core.List.{List}
-use Prim.Native.Nat.{ℕ}
+use Prim.Native.Nat.{ℕ, _≤_, _<_}
 use lib.ListN.{length}
 use Rattle.word.specs.Word.{if_then_else_}
 use Rattle.word.proofs.Tests.{true-false}
+use Rattle.tables.specs.Views.{coresOf}
 use Rattle.tables.specs.Sound.{sound}
 use Rattle.steps.specs.declared.Answer.{Answer}
 use Rattle.steps.specs.declared.Answer.the-variants.{Done, Interrupt, Refused}
+use Rattle.steps.specs.Answers.{answerNumber}
+use Rattle.steps.specs.Form.{countAt}
 use Rattle.machine.specs.declared.action.Action.{Action}
 use Rattle.machine.specs.Actions.{answerOf, tablesAfter, memoryAfter}
 use Rattle.machine.specs.Decide.{decided}
 use Rattle.machine.specs.Step.{Stepped, isAccepted, counted, after, taken, step}
 use Rattle.machine.specs.inner.Tried.{doneOn, tried}
+use Rattle.machine.proofs.Fitting.{header-words, count-there}
 
 -- what is chosen by a test, by cases of it
 pub by-test : {A : Type 0} (P : A → Type 0) (b : Bool) (x y : A) → (b ≡ true → P x) → (b ≡ false → P y) → P (if b then x else y)
@@ -45,31 +49,6 @@ module _ (t m : List ℕ) (a : Action) where
   unfolding doneOn
   tried-still e q = rw (← e, q) refl
 
--- what is left then, once a refusal is counted
-module _ (s : List ℕ) (a : Action) (t m : List ℕ) (r : Answer) (u v : List ℕ) where
-  accepted-on : (x : Answer) → isAccepted r ≡ true → (r ≡ doneOn x a t m .answer) × (u ≡ doneOn x a t m .tables) × (v ≡ doneOn x a t m .memory)
-      → (r ≡ after s x a t m .answer) × (u ≡ after s x a t m .tables) × (v ≡ after s x a t m .memory)
-  unfolding doneOn after
-  accepted-on x q e =
-      let p : isAccepted x ≡ true = sym (ap isAccepted (e .0)) ∙ q in
-      (e .0, e .1 ∙ rw p refl, e .2)
-
-  refused-on : (x : Answer) → isAccepted r ≡ false → (r ≡ doneOn x a t m .answer) × (u ≡ doneOn x a t m .tables) × (v ≡ doneOn x a t m .memory)
-      → (r ≡ after s x a t m .answer) × (counted s u ≡ after s x a t m .tables) × (v ≡ after s x a t m .memory)
-  unfolding doneOn after
-  refused-on x q e =
-      let p : isAccepted x ≡ false = sym (ap isAccepted (e .0)) ∙ q in
-      (e .0, ap (counted s) (e .1) ∙ rw p refl, e .2)
-
-module _ (t m s : List ℕ) (r : Answer) (u v : List ℕ) (e : (r ≡ tried (decided t m s) t m .answer) × (u ≡ tried (decided t m s) t m .tables) × (v ≡ tried (decided t m s) t m .memory)) where
-  pub counts-accepted : isAccepted r ≡ true → (r ≡ taken t m s .answer) × (u ≡ taken t m s .tables) × (v ≡ taken t m s .memory)
-  unfolding taken
-  counts-accepted q = accepted-on s (decided t m s) t m r u v (answerOf (decided t m s)) q e
-
-  pub counts-refused : isAccepted r ≡ false → (r ≡ taken t m s .answer) × (counted s u ≡ taken t m s .tables) × (v ≡ taken t m s .memory)
-  unfolding taken
-  counts-refused q = refused-on s (decided t m s) t m r u v (answerOf (decided t m s)) q e
-
 module _ (t m s : List ℕ) where
   as-answer : (r : Answer) → r ≡ answerOf (decided t m s) → after s r (decided t m s) t m ≡ taken t m s
   unfolding taken
@@ -93,3 +72,35 @@ module _ (t m s : List ℕ) where
   pub is-sound : sound t (length m) ≡ true → taken t m s ≡ step t m s
   unfolding step
   is-sound e = rw (e) refl
+
+-- ---- `take`, then the count
+
+-- r, u and v are the answer, the tables and the memory that `take` leaves, and the operation Step
+abbrev pub Takes : List ℕ → List ℕ → List ℕ → Answer → List ℕ → List ℕ → Type 0
+Takes t m s r u v = (r ≡ tried (decided t m s) t m .answer) × ((u ≡ tried (decided t m s) t m .tables) × (v ≡ tried (decided t m s) t m .memory))
+
+abbrev pub Steps : List ℕ → List ℕ → List ℕ → Answer → List ℕ → List ℕ → Type 0
+Steps t m s r u v = (r ≡ step t m s .answer) × ((u ≡ step t m s .tables) × ((v ≡ step t m s .memory) × (answerNumber r ≡ answerNumber (step t m s .answer))))
+
+module _ (t m s : List ℕ) {r : Answer} {u v : List ℕ} (e : sound t (length m) ≡ true) (y : Takes t m s r u v) where
+  as-step : (w : List ℕ) → (r ≡ taken t m s .answer) × (w ≡ taken t m s .tables) × (v ≡ taken t m s .memory) → Steps t m s r w v
+  as-step w x =
+      let z = is-sound t m s e in
+      let a = x .0 ∙ ap (λ (r : Stepped). r .answer) z in
+      (a, (x .1 ∙ ap (λ (r : Stepped). r .tables) z, (x .2 ∙ ap (λ (r : Stepped). r .memory) z, ap answerNumber a)))
+
+  pub step-accepted : isAccepted r ≡ true → Steps t m s r u v
+  unfolding doneOn taken after
+  step-accepted q =
+      let p : isAccepted (answerOf (decided t m s)) ≡ true = sym (ap isAccepted (y .0)) ∙ q in
+      as-step u (y .0, y .1 .0 ∙ rw p refl, y .1 .1)
+
+  pub step-refused : isAccepted r ≡ false → {w : List ℕ} → w ≡ counted s u → Steps t m s r w v
+  unfolding doneOn taken after
+  step-refused q {w} f =
+      let p : isAccepted (answerOf (decided t m s)) ≡ false = sym (ap isAccepted (y .0)) ∙ q in
+      as-step w (y .0, f ∙ ap (counted s) (y .1 .0) ∙ rw p refl, y .1 .1)
+
+  -- what `count` asks, where the step is refused
+  pub count-asks : isAccepted r ≡ false → (32 ≤ length u) × (countAt (coresOf u) s < length u)
+  count-asks q = rw (y .1 .0 ∙ tried-still t m (decided t m s) (y .0) q) (header-words t (length m) e, count-there t (length m) e s)

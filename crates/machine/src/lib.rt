@@ -79,9 +79,9 @@ fn by_action(t: &mut [u32], m: &mut [u8], p: Step) -> Answer
     r
 }
 
-// A step on sound tables, as its words say it, up to the count: where it is refused nothing moves, and the callers count.
-// Steps that have a plan go their own way: a plan is large, and joined with the other actions it would be copied from
-// hand to hand.
+// A step on sound tables, as its words say it, but for the count: where it is refused nothing moves, and the caller
+// counts. Steps that have a plan go their own way: a plan is large, and joined with the other actions it would be
+// copied from hand to hand.
 pub(crate) fn take(t: &mut [u32], m: &mut [u8], s: &[u32]) -> Answer
     requires { ⌜ sound (now t) (length (now m)) ≡ true ⌝ }
     ensures { λ r. ⌜ r ≡ tried (decided (now (t .entry)) (now (m .entry)) (now (s .entry))) (now (t .entry)) (now (m .entry)) .answer ⌝ }

@@ -68,7 +68,7 @@ known (Refused n) = leb 4 n && leb n 10
 abbrev pub countAfter : ℕ → ℕ → ℕ
 countAfter n k = if eqb n 4 then k else if ltb k (2 ^ 32 - 1) then k + 1 else k
 
--- what refusal n leaves: all but the word that counts refusals of such a step, its core's or the header's (steps, specs/Form)
+-- what refusal n of the words s leaves: all but the word that counts it, its core's or the header's (steps, specs/Form)
 pub record Left (t m s : List ℕ) (n : ℕ) (r : Stepped) : Type 0 where
   pub memory : r .memory ≡ m
   pub long : length (r .tables) ≡ length t

@@ -1,5 +1,6 @@
--- Demand 3 (01, 'What demand 3 compares'): whatever the other cores hold and do, a group of cores found apart observes the same. A core's own count
--- of refusals, word 115 of its block (02, 'Whose refusals?'), is among what its group sees, and refusals of other cores never show there: `Refusals`.
+-- Demand 3 (01, 'What demand 3 compares'): whatever the other cores hold and do, a group of cores found apart observes
+-- the same. A core's own count of refusals, word 115 of its block (02, 'Whose refusals?'), is among what its group sees,
+-- and another group's refusals never show there: `Refusals`, below.
 -- Assumes nothing.
 use mathlib.Core.Path.{_≡_}
 use mathlib.Core.Logic.{_⊎_}
@@ -170,7 +171,8 @@ Demand3 = (g : ℕ) (M : Machine) → Given M → verdict g M ≡ Yes → Promis
 -- ---- Whose refusals, on any tables, sound or not, and for calls of any kind and length
 
 pub record Refusals : Type 0 where
-  -- Whose refusal it is agrees with whose step it is: a core whose own word counts it is in the group exactly where the step is the group's.
+  -- Whose refusal it is agrees with whose step it is: the core whose own word counts it is in the group exactly where
+  -- the step is the group's.
   pub agrees : (g n k : ℕ) (s : List ℕ) → countAt n s ≡ blockAt k + ownRefusals → isOwn g s ≡ isSet g k
   -- A refused step of a core outside the group leaves every block of the group.
   pub unseen : (g : ℕ) (t m s : List ℕ) (number : ℕ) → operation.step t m s .answer ≡ Refused number → isOwn g s ≡ false

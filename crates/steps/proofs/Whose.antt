@@ -1,5 +1,6 @@
--- Where a refusal is counted: in the header, or in the block of a core that is there. The laws from `any-words` on say it once more, by what the
--- step is: another definition that agrees with them on six words and on other lengths is the same.
+-- Where a refusal is counted: in the header, or in the block of a core that is there. The laws from `any-words` on say
+-- it once more, by what the step is, and leave no other definition: words 2 to 5 have no part in it, so six words of
+-- kind 0 to 8 count as the well-formed step with that kind and core, and all other words count in the header.
 -- Assumes nothing.
 use mathlib.Core.Path.{_≡_, refl, sym, ap}
 use mathlib.Core.Logic.{_≢_}

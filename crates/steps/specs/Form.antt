@@ -73,6 +73,6 @@ stepOf n s =
 abbrev pub namesCore : ℕ → List ℕ → Bool
 namesCore n s = eqb (length s) 6 && (ltb (word s 0) 9 && ltb (word s 1) n)
 
--- the word of the tables of n cores that counts a refusal of the words s: that core's, and the header's for all the rest
+-- the word of the tables of n cores that counts a refusal of the words s: that core's, and the header's for the rest
 unfoldable pub countAt : ℕ → List ℕ → ℕ
 countAt n s = if namesCore n s then blockAt (word s 1) + ownRefusals else refusals

@@ -1,5 +1,5 @@
--- A step before a refusal of it is counted: what was decided is done, or nothing is. It serves the contracts of the functions that take a step; `counts-accepted` and
--- `counts-refused` of proofs/Taking tie it to `taken` of Step.
+-- A step before a refusal of it is counted: what was decided is done, or nothing is. It serves the contracts of the
+-- functions that take a step; `step-accepted` and `step-refused` of proofs/Taking tie it to `step` of specs/Step.
 -- Assumes nothing.
 use mathlib.Core.List.{List}
 use Prim.Native.Nat.{ℕ}

@@ -3,14 +3,11 @@ use Rattle.machine.proofs.run.steps.Tie as tie
 use mathlib.Core.Path.{sym, _∙_, ap, refl, _≡_}
 use denote.Ref.{now}
 use native.Mathlib.Omega.{arith}
-use Prim.Native.Nat.{_+_, _-_}
+use Prim.Native.Nat.{_-_}
 use lib.ListN.{length}
 use borrow.Author.Tests.{not-true, not-false}
-use Rattle.machine.specs.Decide.{decided}
-use Rattle.machine.specs.Step.{taken}
-use Rattle.machine.proofs.Fitting.{header-words, count-there}
-use Rattle.machine.proofs.Taking.{tried-still, counts-accepted, counts-refused}
-use Rattle.machine.proofs.Running.{Running, begins, few-accepted, ends, room, spent, refused-there, accepted-there, same-result, six}
+use Rattle.machine.proofs.Taking.{step-accepted, step-refused, count-asks}
+use Rattle.machine.proofs.Running.{Running, begins, few-accepted, ends, room, spent, refused-there, accepted-there, same-result}
 
 abbrev Inv-loop : tie.InvT-loop
 Inv-loop t₀ m₀ schedule limit i₀ accepted₀ t m i accepted =
@@ -68,7 +65,7 @@ part-count-end : tie.Need-part-count-end Inv-loop μ-loop
 part-count-end c = let h = room (c .before .before .before .before .before .before .before .before .before .before .before .before .before .loop .inv .0) (c .before .before .before .before .before .before .before .before .before .before .before .before .loop-test .taken) in omega (arith, h)
 
 count-requires : tie.Need-count-requires Inv-loop μ-loop
-count-requires c κs = let e = (c .before .before .before .before .before .before .before .before .before .before .before .before .before .before .loop .inv .0) .stays-sound in rw (c .before .before .before .before .before .before .before .before .take .ensures .1 .0 ∙ tried-still ((c .before .before .before .before .before .before .before .before .before .before .before .before .before .before .loop) .t) ((c .before .before .before .before .before .before .before .before .before .before .before .before .before .before .loop) .m) (decided ((c .before .before .before .before .before .before .before .before .before .before .before .before .before .before .loop) .t) ((c .before .before .before .before .before .before .before .before .before .before .before .before .before .before .loop) .m) (lib.ListN.take (((c .before .before .before .before .before .before .before .before .before .before .before .before .before .before .loop) .i) + 6 - ((c .before .before .before .before .before .before .before .before .before .before .before .before .before .before .loop) .i)) (lib.ListN.drop ((c .before .before .before .before .before .before .before .before .before .before .before .before .before .before .loop) .i) (now (c .before .before .before .before .before .before .before .before .before .before .before .before .before .before .before .before .before .before .args .schedule))))) (c .before .before .before .before .before .before .before .before .take .ensures .0) (sym (c .before .before .before .is-accepted .ensures) ∙ not-true _ (c .before .before .if2 .taken))) (let h = header-words ((c .before .before .before .before .before .before .before .before .before .before .before .before .before .before .loop) .t) (length ((c .before .before .before .before .before .before .before .before .before .before .before .before .before .before .loop) .m)) e in omega (arith, h), count-there ((c .before .before .before .before .before .before .before .before .before .before .before .before .before .before .loop) .t) (length ((c .before .before .before .before .before .before .before .before .before .before .before .before .before .before .loop) .m)) e (lib.ListN.take (((c .before .before .before .before .before .before .before .before .before .before .before .before .before .before .loop) .i) + 6 - ((c .before .before .before .before .before .before .before .before .before .before .before .before .before .before .loop) .i)) (lib.ListN.drop ((c .before .before .before .before .before .before .before .before .before .before .before .before .before .before .loop) .i) (now (c .before .before .before .before .before .before .before .before .before .before .before .before .before .before .before .before .before .before .args .schedule)))))
+count-requires c κs = count-asks _ _ _ (c .before .before .before .before .before .before .before .before .before .before .before .before .before .before .loop .inv .0 .stays-sound) (c .before .before .before .before .before .before .before .before .take .ensures) (sym (c .before .before .before .is-accepted .ensures) ∙ not-true _ (c .before .before .if2 .taken))
 
 stop-of-requires : tie.Need-stop-of-requires Inv-loop μ-loop
 stop-of-requires c κs = tt
@@ -83,7 +80,7 @@ same-length-4 : tie.Need-same-length-4 Inv-loop μ-loop
 same-length-4 c = c .before .before .before .before .before .before .before .before .before .before .before .before .before .take .kept .1 .0 ∙ c .before .before .before .before .before .before .before .before .before .before .before .before .before .before .before .before .before .before .before .loop .inv .1 .1
 
 returns-2 : tie.Need-returns-2 Inv-loop μ-loop
-returns-2 c = let y = c .before .before .before .before .before .before .before .before .before .before .before .before .before .take .ensures in let q = sym (c .before .before .before .before .before .before .before .before .is-accepted .ensures) ∙ not-true _ (c .before .before .before .before .before .before .before .if2 .taken) in let z = counts-refused _ _ _ _ _ _ (y .0, y .1 .0, y .1 .1) q in same-result (c .result2 .ensures .0, c .result2 .ensures .1 ∙ c .before .stop-of .ensures) refl refl (refused-there (c .before .before .before .before .before .before .before .before .before .before .before .before .before .before .before .before .before .before .before .loop .inv .0) (c .before .before .before .before .before .before .before .before .before .before .before .before .before .before .before .before .before .before .loop-test .taken) (c .before .before .before .before .before .before .before .before .before .before .before .before .before .before .before .before .before .if1 .left) _ _ _ (z .0 ∙ ap (λ k. taken ((c .before .before .before .before .before .before .before .before .before .before .before .before .before .before .before .before .before .before .before .loop) .t) ((c .before .before .before .before .before .before .before .before .before .before .before .before .before .before .before .before .before .before .before .loop) .m) (lib.ListN.take k (lib.ListN.drop ((c .before .before .before .before .before .before .before .before .before .before .before .before .before .before .before .before .before .before .before .loop) .i) (now (c .before .before .before .before .before .before .before .before .before .before .before .before .before .before .before .before .before .before .before .before .before .before .before .args .schedule)))) .answer) (six ((c .before .before .before .before .before .before .before .before .before .before .before .before .before .before .before .before .before .before .before .loop) .i))) (c .before .before .before .before .count .ensures ∙ z .1 ∙ ap (λ k. taken ((c .before .before .before .before .before .before .before .before .before .before .before .before .before .before .before .before .before .before .before .loop) .t) ((c .before .before .before .before .before .before .before .before .before .before .before .before .before .before .before .before .before .before .before .loop) .m) (lib.ListN.take k (lib.ListN.drop ((c .before .before .before .before .before .before .before .before .before .before .before .before .before .before .before .before .before .before .before .loop) .i) (now (c .before .before .before .before .before .before .before .before .before .before .before .before .before .before .before .before .before .before .before .before .before .before .before .args .schedule)))) .tables) (six ((c .before .before .before .before .before .before .before .before .before .before .before .before .before .before .before .before .before .before .before .loop) .i))) (z .2 ∙ ap (λ k. taken ((c .before .before .before .before .before .before .before .before .before .before .before .before .before .before .before .before .before .before .before .loop) .t) ((c .before .before .before .before .before .before .before .before .before .before .before .before .before .before .before .before .before .before .before .loop) .m) (lib.ListN.take k (lib.ListN.drop ((c .before .before .before .before .before .before .before .before .before .before .before .before .before .before .before .before .before .before .before .loop) .i) (now (c .before .before .before .before .before .before .before .before .before .before .before .before .before .before .before .before .before .before .before .before .before .before .before .args .schedule)))) .memory) (six ((c .before .before .before .before .before .before .before .before .before .before .before .before .before .before .before .before .before .before .before .loop) .i))) q)
+returns-2 c = let q = sym (c .before .before .before .before .before .before .before .before .is-accepted .ensures) ∙ not-true _ (c .before .before .before .before .before .before .before .if2 .taken) in same-result (c .result2 .ensures .0, c .result2 .ensures .1 ∙ c .before .stop-of .ensures) refl refl (refused-there (c .before .before .before .before .before .before .before .before .before .before .before .before .before .before .before .before .before .before .before .loop .inv .0) (c .before .before .before .before .before .before .before .before .before .before .before .before .before .before .before .before .before .before .loop-test .taken) (c .before .before .before .before .before .before .before .before .before .before .before .before .before .before .before .before .before .if1 .left) _ _ _ (step-refused _ _ _ (c .before .before .before .before .before .before .before .before .before .before .before .before .before .before .before .before .before .before .before .loop .inv .0 .stays-sound) (c .before .before .before .before .before .before .before .before .before .before .before .before .before .take .ensures) q (c .before .before .before .before .count .ensures)) q)
 
 add-accepted : tie.Need-add-accepted Inv-loop μ-loop
 add-accepted c = let h = few-accepted (c .before .before .before .before .before .before .before .before .before .before .before .before .loop .inv .0) in omega (arith, h)
@@ -92,7 +89,7 @@ loop-less : tie.Need-loop-less Inv-loop μ-loop
 loop-less c = omega (arith, c .before .before .before .before .before .before .before .before .before .before .before .loop-test .taken)
 
 loop-again : tie.Need-loop-again Inv-loop μ-loop
-loop-again c = let y = c .before .before .before .before .before .before .take .ensures in let q = sym (c .before .is-accepted .ensures) ∙ not-false _ (c .if2 .left) in let z = counts-accepted _ _ _ _ _ _ (y .0, y .1 .0, y .1 .1) q in (accepted-there (c .before .before .before .before .before .before .before .before .before .before .before .before .loop .inv .0) (c .before .before .before .before .before .before .before .before .before .before .before .loop-test .taken) (c .before .before .before .before .before .before .before .before .before .before .if1 .left) _ _ _ (z .0 ∙ ap (λ k. taken ((c .before .before .before .before .before .before .before .before .before .before .before .before .loop) .t) ((c .before .before .before .before .before .before .before .before .before .before .before .before .loop) .m) (lib.ListN.take k (lib.ListN.drop ((c .before .before .before .before .before .before .before .before .before .before .before .before .loop) .i) (now (c .before .before .before .before .before .before .before .before .before .before .before .before .before .before .before .before .args .schedule)))) .answer) (six ((c .before .before .before .before .before .before .before .before .before .before .before .before .loop) .i))) (z .1 ∙ ap (λ k. taken ((c .before .before .before .before .before .before .before .before .before .before .before .before .loop) .t) ((c .before .before .before .before .before .before .before .before .before .before .before .before .loop) .m) (lib.ListN.take k (lib.ListN.drop ((c .before .before .before .before .before .before .before .before .before .before .before .before .loop) .i) (now (c .before .before .before .before .before .before .before .before .before .before .before .before .before .before .before .before .args .schedule)))) .tables) (six ((c .before .before .before .before .before .before .before .before .before .before .before .before .loop) .i))) (z .2 ∙ ap (λ k. taken ((c .before .before .before .before .before .before .before .before .before .before .before .before .loop) .t) ((c .before .before .before .before .before .before .before .before .before .before .before .before .loop) .m) (lib.ListN.take k (lib.ListN.drop ((c .before .before .before .before .before .before .before .before .before .before .before .before .loop) .i) (now (c .before .before .before .before .before .before .before .before .before .before .before .before .before .before .before .before .args .schedule)))) .memory) (six ((c .before .before .before .before .before .before .before .before .before .before .before .before .loop) .i))) q (λ i. omega (arith, c .before .before .before .before .slice-known3 .given i)) (λ i. omega (arith, c .before .before .slice-known4 .given i)), (c .before .before .before .before .before .before .take .kept .0 ∙ c .before .before .before .before .before .before .before .before .before .before .before .before .loop .inv .1 .0, c .before .before .before .before .before .before .take .kept .1 .0 ∙ c .before .before .before .before .before .before .before .before .before .before .before .before .loop .inv .1 .1))
+loop-again c = let q = sym (c .before .is-accepted .ensures) ∙ not-false _ (c .if2 .left) in (accepted-there (c .before .before .before .before .before .before .before .before .before .before .before .before .loop .inv .0) (c .before .before .before .before .before .before .before .before .before .before .before .loop-test .taken) (c .before .before .before .before .before .before .before .before .before .before .if1 .left) _ _ _ (step-accepted _ _ _ (c .before .before .before .before .before .before .before .before .before .before .before .before .loop .inv .0 .stays-sound) (c .before .before .before .before .before .before .take .ensures) q) q (λ i. omega (arith, c .before .before .before .before .slice-known3 .given i)) (λ i. omega (arith, c .before .before .slice-known4 .given i)), (c .before .before .before .before .before .before .take .kept .0 ∙ c .before .before .before .before .before .before .before .before .before .before .before .before .loop .inv .1 .0, c .before .before .before .before .before .before .take .kept .1 .0 ∙ c .before .before .before .before .before .before .before .before .before .before .before .before .loop .inv .1 .1))
 
 result-requires-3 : tie.Need-result-requires-3 Inv-loop μ-loop
 result-requires-3 c κs = tt
