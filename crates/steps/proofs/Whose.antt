@@ -1,6 +1,6 @@
--- Where a refusal is counted: in the header, or in the block of a core that is there. The laws from `any-words` on say
--- it once more, by what the step is, and leave no other definition: words 2 to 5 have no part in it, so six words of
--- kind 0 to 8 count as the well-formed step with that kind and core, and all other words count in the header.
+-- Where a refusal is counted, once more by what the step is. The laws leave no other definition: words 2 to 5 have no
+-- part in it, so six words of kind 0 to 8 that name a core count as the well-formed step with that kind and core does;
+-- all other words count in the header.
 -- Assumes nothing.
 use mathlib.Core.Path.{_≡_, refl, sym, ap}
 use mathlib.Core.Logic.{_≢_}
@@ -17,15 +17,6 @@ use Rattle.steps.specs.declared.Step.{Step}
 use Rattle.steps.specs.declared.Step.the-variants.{Core, TlbCreate, TlbExtend, TlbAccessed, StoreBuffer, SendIpi, SendEoi, InitCore, StartCore, Sample, Deliver, SetLine, NotAStep}
 use Rattle.steps.specs.Form.{word, zero2, zero3, zero4, zero5, walkAt, orNot, stepOfCore, stepOfLine, stepOf, lineCount, namesCore, countAt}
 
--- what holds of the header's word, and of the word of a core that is there
-pub by-count : (P : ℕ → Type 0) (n : ℕ) (s : List ℕ) → P refusals → (word s 1 < n → P (blockAt (word s 1) + ownRefusals)) → P (countAt n s)
-unfolding countAt
-by-count P n s h c = go (namesCore n s) refl
-  where
-    go : (b : Bool) → namesCore n s ≡ b → P (if b then blockAt (word s 1) + ownRefusals else refusals)
-    go true e = c (ltb-true (word s 1) n (and-right (ltb (word s 0) 9) _ (and-right (eqb (length s) 6) _ e)))
-    go false e = h
-
 -- words 2 to 5 have no part in it: a step that is misformed there counts as one that is not
 pub any-words : (n kind k : ℕ) (a b c d x y z w : ℕ) → countAt n (kind ∷ k ∷ a ∷ b ∷ c ∷ d ∷ []) ≡ countAt n (kind ∷ k ∷ x ∷ y ∷ z ∷ w ∷ [])
 unfolding countAt
@@ -35,14 +26,13 @@ any-words n kind k a b c d x y z w = refl
 module _ (n : ℕ) (s : List ℕ) where
   header : namesCore n s ≡ false → countAt n s ≡ refusals
   unfolding countAt
-  header e = ap (λ (b : Bool). if b then blockAt (word s 1) + ownRefusals else refusals) e
+  header e = rw e refl
 
   pub other-length : length s ≢ 6 → countAt n s ≡ refusals
-  other-length d = header (ap (λ (b : Bool). b && (ltb (word s 0) 9 && ltb (word s 1) n)) (ne-eqb (length s) 6 d))
+  other-length d = header (rw (ne-eqb (length s) 6 d) refl)
 
   pub other-kind : 9 ≤ word s 0 → countAt n s ≡ refusals
-  other-kind h =
-      header (and-none (eqb (length s) 6) _ (ap (λ (b : Bool). b && ltb (word s 1) n) (le-ltb (word s 0) 9 h)))
+  other-kind h = header (and-none (eqb (length s) 6) _ (rw (le-ltb (word s 0) 9 h) refl))
 
   pub no-core : n ≤ word s 1 → countAt n s ≡ refusals
   no-core h = header (and-none (eqb (length s) 6) _ (and-none (ltb (word s 0) 9) _ (le-ltb (word s 1) n h)))
@@ -106,3 +96,14 @@ well-formed n s = go (eqb (length s) 6) (ltb (word s 0) 9) (ltb (word s 1) n) (l
     go true false there true true = line-counts (word s 0) (word s 1) s
     go true false there true false = λ d. absurd (d refl)
     go true false there false known = λ d. absurd (d refl)
+
+-- ---- by cases
+
+-- what holds of the header's word, and of the word of a core that is there
+pub by-count : (P : ℕ → Type 0) (n : ℕ) (s : List ℕ) → P refusals → (word s 1 < n → P (blockAt (word s 1) + ownRefusals)) → P (countAt n s)
+unfolding countAt
+by-count P n s h c = go (namesCore n s) refl
+  where
+    go : (b : Bool) → namesCore n s ≡ b → P (if b then blockAt (word s 1) + ownRefusals else refusals)
+    go true e = c (ltb-true (word s 1) n (and-right (ltb (word s 0) 9) _ (and-right (eqb (length s) 6) _ e)))
+    go false e = h
