@@ -34,7 +34,6 @@ fn proved_steps(t: &mut [u32], m: &mut [u8], s: &[u32]) -> usize {
 
 fn oracle_steps(checked: bool, t: &mut [u32], m: &mut [u8], s: &[u32]) -> usize {
     let accepted = |x: &[u32], t: &mut [u32], m: &mut [u8]| {
-        let x = x.try_into().expect("six words");
         !matches!(oracle::machine::step(checked, t, m, x), oracle::machine::Answer::Refused(_))
     };
     s.chunks_exact(6).filter(|x| accepted(x, t, m)).count()

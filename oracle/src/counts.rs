@@ -226,6 +226,7 @@ impl Counts {
             _ => RUNS[2],
         };
         self.add("run", name);
+        self.refusals_of(v);
     }
 
     /// Counts one step, given the machine before and after it.
@@ -239,6 +240,7 @@ impl Counts {
                 self.add("why", why.text());
             }
         }
+        self.refusal(t0, s, answer);
         if let Some(kind) = KINDS.get(s[0] as usize) {
             self.add(if answer.accepted() { "kind" } else { "kind refused" }, kind);
         }
@@ -662,11 +664,13 @@ impl Counts {
             all.push(("interrupted", row.name.to_string()));
         }
         all.push(("interrupted", "ill".to_string()));
-        all.extend(WHYS.iter().filter(|(why, _)| *why != Why::NoFreeRecord).map(|w| ("why", w.1.to_string())));
+        let never = [Why::Length, Why::NoFreeRecord];
+        all.extend(WHYS.iter().filter(|(why, _)| !never.contains(why)).map(|w| ("why", w.1.to_string())));
         all.extend(EVENTS.iter().map(|e| ("event", e.to_string())));
         all.extend(Counts::expected_sums().into_iter().map(|(_, cell)| ("sum", cell)));
         all.extend(CLAUSES.iter().map(|c| ("damage", c.1.to_string())));
         all.extend(RUNS.iter().map(|r| ("run", r.to_string())));
+        all.extend(Counts::expected_refusals());
         all
     }
 
@@ -696,7 +700,7 @@ impl Counts {
         }
         writeln!(o, "| (illegal word) | | {} |", self.get("interrupted", "ill")).unwrap();
         writeln!(o, "\n| refusal | ground | times |\n|---|---|---|").unwrap();
-        for (why, text) in WHYS {
+        for (why, text) in WHYS.into_iter().filter(|(why, _)| *why != Why::Length) {
             writeln!(o, "| {} | {text} | {} |", why.number(), self.get("why", text)).unwrap();
         }
         writeln!(o, "\n| event | times |\n|---|---|").unwrap();
@@ -720,6 +724,6 @@ impl Counts {
         for name in RUNS {
             writeln!(o, "| {name} | {} |", self.get("run", name)).unwrap();
         }
-        out
+        out + &self.print_refusals()
     }
 }

@@ -14,6 +14,7 @@ use crate::generate::Rng;
 use crate::isa;
 use crate::machine::*;
 use crate::reach::{apart, reach, TABLE, WRITABLE};
+use crate::refusals::draw_counts;
 use crate::sides::{any, spoil, Board, Side, Style};
 use crate::soundness::*;
 use crate::ways::{self, Condition};
@@ -27,10 +28,16 @@ pub struct Terms {
     /// Are table bytes looked at? Without that a pair that changes its tables
     /// goes on, to where the changed tables lead it.
     pub tables: bool,
+    /// Whose word 115 counts a refusal. A wrong turn here has to be found too.
+    pub whose: Whose,
 }
 
+/// Given the group, the number of cores and the step's core, the core whose
+/// word 115 counts.
+pub type Whose = fn(u32, usize, usize) -> usize;
+
 impl Terms {
-    pub const CLAIM: Terms = Terms { off: None, tables: true };
+    pub const CLAIM: Terms = Terms { off: None, tables: true, whose: |_, _, core| core };
 }
 
 /// Two machines, alike for the group.
@@ -53,6 +60,12 @@ pub struct Figures {
     /// Interrupts by level and refusals by number, group and others together.
     pub levels: [u64; 8],
     pub refused: [u64; 11],
+    /// Refusals that the core's word 115 counts, those that find it at its
+    /// largest, and pairs with a core of both rests whose words differ at first.
+    pub group_counted: u64,
+    pub other_counted: u64,
+    pub at_the_largest: u64,
+    pub counts_differ: u64,
     pub group_stores_left: u64,
     pub other_stores_left: u64,
     pub cas_wrote: u64,
@@ -63,7 +76,7 @@ pub struct Figures {
     pub rest_empty_in_both: u64,
     pub page_in_common: u64,
     pub idle_cores: u64,
-    /// Steps that changed a header word other than the refusal count.
+    /// Steps that changed a header word, refusal count included.
     pub header_changed: u64,
     /// Pairs by how they break the claim first.
     pub breaks: [u64; 6],
@@ -141,6 +154,12 @@ impl Figures {
         writeln!(o, "refused {}", list(&self.refused, 4)).unwrap();
         writeln!(
             o,
+            "counted in words 115: {} of the group, {} of others, {} of them at the largest; those of a rest core differ at first in {} pairs",
+            self.group_counted, self.other_counted, self.at_the_largest, self.counts_differ
+        )
+        .unwrap();
+        writeln!(
+            o,
             "stores that left to memory: {} of the group, {} of others; cas that wrote: {}",
             self.group_stores_left, self.other_stores_left, self.cas_wrote
         )
@@ -157,7 +176,7 @@ impl Figures {
             self.cores_differ, self.pages_differ, self.rest_empty_in_both, self.page_in_common, self.idle_cores
         )
         .unwrap();
-        writeln!(o, "steps that changed the header beyond its count: {}", self.header_changed).unwrap();
+        writeln!(o, "steps that changed the header: {}", self.header_changed).unwrap();
         writeln!(o, "pairs that break it: {}", self.broken()).unwrap();
         for (kind, text) in BREAKS.iter().filter(|(kind, _)| self.breaks[*kind as usize] != 0) {
             writeln!(o, "    {text}: {}", self.breaks[*kind as usize]).unwrap();
@@ -233,7 +252,8 @@ pub fn pair(rng: &mut Rng, off: Option<Condition>) -> Option<Pair> {
     let second_off = rest_off.filter(|_| rng.chance(50));
     others(rng, &mut two, &side, &map, second_off)?;
 
-    let pair = Pair { group, one, two };
+    let mut pair = Pair { group, one, two };
+    pair.draw_counts(rng);
     pair.fits(off).then_some(pair)
 }
 
@@ -340,6 +360,15 @@ fn use_ports(board: &mut Board, side: &Side) {
 }
 
 impl Pair {
+    /// Words 115: for the group the same in both, for others by themselves.
+    fn draw_counts(&mut self, rng: &mut Rng) {
+        draw_counts(rng, &mut self.one.t);
+        draw_counts(rng, &mut self.two.t);
+        for word in cores_of(self.group).map(|k| block(k) + CORE_REFUSALS) {
+            self.two.t[word] = self.one.t[word];
+        }
+    }
+
     /// The terms, each looked at again from the machines themselves.
     pub fn fits(&self, off: Option<Condition>) -> bool {
         let (one, two) = (&self.one, &self.two);
@@ -395,16 +424,15 @@ struct Course {
     may_step: u32,
     map: Vec<u8>,
     rest_map: Vec<u8>,
-    /// Are table bytes looked at?
-    tables: bool,
+    terms: Terms,
 }
 
 impl Course {
-    fn new(board: Board, group: u32, tables: bool) -> Course {
+    fn new(board: Board, group: u32, terms: Terms) -> Course {
         let running = (0..board.cores()).filter(|&k| board.t[block(k) + RUNNING] == 1).fold(0, |all, k| all | 1 << k);
         let rest = running & !group;
         let (map, rest_map) = (board.map(group), board.map(rest));
-        Course { memory0: board.m.clone(), board, group, rest, may_step: running, map, rest_map, tables }
+        Course { memory0: board.m.clone(), board, group, rest, may_step: running, map, rest_map, terms }
     }
 
     /// One call of step, and what it may do to memory.
@@ -419,12 +447,18 @@ impl Course {
         let store = self.board.t[b + STORES];
         let leaves = kind == 4 && store != 0 && !in_ports(self.board.t[record(b, store) + 1]);
         let before = if kind == 3 || kind == 0 { Some(self.board.m.clone()) } else { None };
-        let mut header = [0; 30];
-        header.copy_from_slice(&self.board.t[..30]);
+        let mut header = [0; 32];
+        header.copy_from_slice(&self.board.t[..32]);
+        let count = self.board.t[b + CORE_REFUSALS];
         let answer = step(false, &mut self.board.t, &mut self.board.m, s);
         figures.count(in_group, kind, answer);
-        header[REFUSALS] = self.board.t[REFUSALS];
-        figures.header_changed += (header[..] != self.board.t[..30]) as u64;
+        figures.header_changed += (header[..] != self.board.t[..32]) as u64;
+        if !answer.accepted() {
+            let counted = self.board.t[b + CORE_REFUSALS] == count.saturating_add(1);
+            *(if in_group { &mut figures.group_counted } else { &mut figures.other_counted }) += counted as u64;
+            figures.at_the_largest += (count == u32::MAX) as u64;
+            self.count_elsewhere(k, count);
+        }
         if answer == Answer::Done {
             if leaves {
                 *(if in_group { &mut figures.group_stores_left } else { &mut figures.other_stores_left }) += 1;
@@ -444,6 +478,16 @@ impl Course {
         Ok(answer)
     }
 
+    /// Takes the count of a refused step elsewhere, where the terms ask for it.
+    fn count_elsewhere(&mut self, k: usize, before: u32) {
+        let whose = (self.terms.whose)(self.group, self.board.cores(), k);
+        if whose != k {
+            self.board.t[block(k) + CORE_REFUSALS] = before;
+            let count = &mut self.board.t[block(whose) + CORE_REFUSALS];
+            *count = count.saturating_add(1);
+        }
+    }
+
     /// Pages that are neither table nor writable for a side are as at first;
     /// those that are a table for one are so but for accessed bits.
     fn memory_is_right(&self) -> Result<(), Broken> {
@@ -454,7 +498,7 @@ impl Course {
             if marks & (TABLE | WRITABLE) == 0 && now != first {
                 return Err((Break::Untouched, format!("page {page}, neither table nor writable, has changed")));
             }
-            if self.tables && marks & TABLE != 0 && now != first {
+            if self.terms.tables && marks & TABLE != 0 && now != first {
                 for i in 0..PAGE {
                     let accessed = if i % 4 == 0 { 0x80 } else { 0 };
                     if (now[i] ^ first[i]) & !accessed != 0 {
@@ -473,8 +517,10 @@ pub fn lists(rng: &mut Rng, pair: Pair, terms: &Terms, figures: &mut Figures) ->
     figures.cores_differ += (pair.one.cores() != pair.two.cores()) as u64;
     figures.pages_differ += (pair.one.pages() != pair.two.pages()) as u64;
     let group = pair.group;
-    let mut one = Course::new(pair.one, group, terms.tables);
-    let mut two = Course::new(pair.two, group, terms.tables);
+    let mut one = Course::new(pair.one, group, *terms);
+    let mut two = Course::new(pair.two, group, *terms);
+    let count = |c: &Course, k: usize| c.board.t[block(k) + CORE_REFUSALS];
+    figures.counts_differ += cores_of(one.rest & two.rest).any(|k| count(&one, k) != count(&two, k)) as u64;
     figures.rest_empty_in_both += (one.rest | two.rest == 0) as u64;
     for course in [&one, &two] {
         figures.idle_cores += (course.board.cores() as u64) - (course.may_step.count_ones() as u64);

@@ -7,6 +7,7 @@
 use crate::counts::{Counts, SUMS};
 use crate::isa::{self, Op, Row, ROWS};
 use crate::machine::*;
+use crate::refusals::{draw_counts, refusals};
 use crate::soundness::*;
 use crate::vectors::{answer_steps, Machine, Vector};
 
@@ -15,6 +16,8 @@ const CROSSED_VECTORS: usize = 2800;
 const DAMAGED_EACH: usize = 24;
 /// Each row on sums and differences occurs so often at least.
 const SUMS_EACH: u64 = 24;
+/// And each row on refusal counts.
+const REFUSALS_EACH: u64 = 24;
 
 // ---------------------------------------------------------------- numbers
 
@@ -84,6 +87,18 @@ impl Rng {
         match self.below(10) {
             0..=5 => self.pick(&EDGES),
             6 => self.below(256),
+            _ => self.word(),
+        }
+    }
+    /// A refusal count near an edge, or any.
+    pub fn count(&mut self) -> u32 {
+        match self.below(10) {
+            0..=2 => 0,
+            3 => 1,
+            4 | 5 => 0xFFFF_FFFF,
+            6 => 0xFFFF_FFFE,
+            7 => self.pick(&[0xFF, 0xFFFF, 0x00FF_FFFF, 0x7FFF_FFFF, 0xFFFE_FFFF, 0xFFFF_FFFD]),
+            8 => self.below(100),
             _ => self.word(),
         }
     }
@@ -1041,7 +1056,8 @@ fn schedule(rng: &mut Rng, counts: &mut Counts, machine: &Machine, length: usize
 }
 
 /// The steps file: sound machines with schedules, small machines where
-/// conditions cross, small ones that add and subtract, then damaged tables.
+/// conditions cross, small ones that add and subtract, damaged tables, then
+/// small machines whose steps are refused.
 pub fn steps(seed: u32) -> Vec<Vector> {
     let mut rng = Rng::new(seed as u64);
     let mut counts = Counts::default();
@@ -1087,7 +1103,38 @@ pub fn steps(seed: u32) -> Vec<Vector> {
             }
         }
     }
+    // Refusal counts of every sort, which no answer depends on.
+    let mut rng = Rng::new(seed as u64 ^ 0x5245_4655);
+    for v in &mut vectors {
+        draw_counts(&mut rng, &mut v.machine.tables);
+        let schedule: Vec<[u32; 6]> = v.steps.iter().map(|s| s.words).collect();
+        *v = answer_steps(v.machine.clone(), &schedule, v.run.words, v.run.limit);
+    }
+    let mut counts = Counts::default();
+    vectors.iter().for_each(|v| counts.vector(v));
+    for (section, name) in Counts::expected_refusals() {
+        while counts.get(section, &name) < REFUSALS_EACH {
+            let vector = refusals_with(&mut rng, section, &name);
+            counts.vector(&vector);
+            vectors.push(vector);
+        }
+    }
     vectors
+}
+
+/// A vector of refusals in which one occurs.
+fn refusals_with(rng: &mut Rng, section: &'static str, name: &str) -> Vector {
+    for _ in 0..100_000 {
+        let (machine, schedule) = refusals(rng);
+        let words = 6 * schedule.len() as u16;
+        let vector = answer_steps(machine, &schedule, words, rng.pick(&[1, 1024, 0xFFFF_FFFF]));
+        let mut tried = Counts::default();
+        tried.vector(&vector);
+        if tried.get(section, name) > 0 {
+            return vector;
+        }
+    }
+    panic!("{section}: {name} does not occur");
 }
 
 // ---------------------------------------------------------------- crossings
@@ -1481,6 +1528,9 @@ fn small(rng: &mut Rng, stores: u32, walks: u32) -> Machine {
     builder.machine()
 }
 
+/// Block words 116 to 127, the first and the last more often than the others.
+const ZERO_WORDS: [usize; 16] = [117, 116, 118, 116, 119, 116, 120, 121, 122, 123, 124, 127, 125, 127, 126, 127];
+
 /// A machine whose first broken clause is the one asked for, or None if the
 /// attempt broke something else.
 pub fn damaged(rng: &mut Rng, clause: Clause) -> Option<Machine> {
@@ -1532,7 +1582,7 @@ pub fn damaged(rng: &mut Rng, clause: Clause) -> Option<Machine> {
         HeaderZeros => t[rng.pick(&[30, 31])] = large(rng, 1),
         Lines => t[LINES] = 1 << (24 + rng.below(8)) | rng.below(1 << 24),
         BlockWord71 => t[any_b + 71] = large(rng, 1),
-        BlockWords115 => t[any_b + 115 + rng.below(13) as usize] = large(rng, 1),
+        BlockWords116 => t[any_b + rng.pick(&ZERO_WORDS)] = large(rng, 1),
         RecordZero => t[any_b + RECORDS + rng.below(4) as usize] = large(rng, 1),
         Register0 => t[any_b] = large(rng, 1),
         Running => t[any_b + RUNNING] = large(rng, 2),

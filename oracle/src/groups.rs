@@ -5,9 +5,10 @@
 
 use crate::counts::Counts;
 use crate::generate::{damaged, group_machine, sound_machine, Rng};
+use crate::refusals::draw_counts;
 use crate::sides::{beyond, shuffle, spoil, Board, Side, Style};
 use crate::soundness::*;
-use crate::vectors::{answer_groups, Groups, Machine};
+use crate::vectors::{answer_groups, checksum, Groups, Machine};
 use crate::ways::{sides, Condition, Way, CONDITIONS, WAYS};
 
 /// Each thing that is counted occurs so often at least.
@@ -67,6 +68,12 @@ pub fn groups(seed: u32) -> Vec<Groups> {
     while let Some((section, name)) = rare(&counts) {
         let machine = with(&mut rng, section, &name);
         add(machine, &mut rng, &mut counts);
+    }
+    // Refusal counts of every sort, which no answer depends on.
+    let mut rng = Rng::new(seed as u64 ^ 0x5245_4655);
+    for g in &mut all {
+        draw_counts(&mut rng, &mut g.machine.tables);
+        g.sum = checksum(&g.machine.tables, &g.machine.memory);
     }
     all
 }

@@ -1,6 +1,6 @@
 //! A plain simulator of the four-core MIPS-86 controller.
 //!
-//! Written from the scope paper ("01"), the first three of the change requests
+//! Written from the scope paper ("01"), the first five of the change requests
 //! ("02"), the MIPS-86 report of 4 November 2013 ("000") and the settled
 //! readings (docs/DECISIONS.md). Definition numbers in comments are those of
 //! 000.
@@ -15,6 +15,8 @@ pub mod isa;
 pub mod machine;
 pub mod program;
 pub mod reach;
+pub mod refusals;
+pub mod refusals_counts;
 pub mod sides;
 pub mod soundness;
 pub mod texts;

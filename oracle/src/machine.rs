@@ -21,6 +21,7 @@ pub enum Why {
     // 4
     NotSound,
     // 5
+    Length,
     Kind,
     Core,
     Line,
@@ -77,8 +78,9 @@ pub enum Why {
 
 use Why::*;
 
-pub const WHYS: [(Why, &str); 50] = [
+pub const WHYS: [(Why, &str); 51] = [
     (NotSound, "tables not sound"),
+    (Length, "not six words"),
     (Kind, "no such kind"),
     (Core, "no such core"),
     (Line, "no such line"),
@@ -204,7 +206,7 @@ pub fn make(cores: u32, t: &mut [u32], m: &[u8]) -> Result<(), u32> {
 // ---------------------------------------------------------------- step
 
 /// One step. With `checked` unset the caller vouches that the tables are sound.
-pub fn step(checked: bool, t: &mut [u32], m: &mut [u8], s: &[u32; 6]) -> Answer {
+pub fn step(checked: bool, t: &mut [u32], m: &mut [u8], s: &[u32]) -> Answer {
     if checked && sound(t, m).is_err() {
         return Answer::Refused(NotSound);
     }
@@ -212,15 +214,25 @@ pub fn step(checked: bool, t: &mut [u32], m: &mut [u8], s: &[u32; 6]) -> Answer 
         Ok(None) => Answer::Done,
         Ok(Some(level)) => Answer::Interrupt(level),
         Err(why) => {
-            t[REFUSALS] = t[REFUSALS].saturating_add(1);
+            let count = &mut t[refusal_count(t[CORES], s)];
+            *count = count.saturating_add(1);
             Answer::Refused(why)
         }
     }
 }
 
+/// The table word that counts this call where it is refused 5 to 10: word 115
+/// of its core for kinds 0 to 8 and a core that is there, else header word 2.
+pub fn refusal_count(cores: u32, s: &[u32]) -> usize {
+    match *s {
+        [0..=8, core, _, _, _, _] if core < cores => block(core as usize) + CORE_REFUSALS,
+        _ => REFUSALS,
+    }
+}
+
 /// Form (refusal 5), then the transition. Ok(Some(level)) is an interrupt.
-fn transition(t: &mut [u32], m: &mut [u8], s: &[u32; 6]) -> Result<Option<u32>, Why> {
-    let [kind, who, a, b, c, d] = *s;
+fn transition(t: &mut [u32], m: &mut [u8], s: &[u32]) -> Result<Option<u32>, Why> {
+    let [kind, who, a, b, c, d] = *s else { return Err(Length) };
     if kind > 11 {
         return Err(Kind);
     }
@@ -837,7 +849,7 @@ pub fn effective_address(t: &[u32], b: usize, op: Op, i: u32) -> u32 {
     }
 }
 
-fn core_step(t: &mut [u32], m: &mut [u8], k: usize, s: &[u32; 6]) -> Result<Option<u32>, Why> {
+fn core_step(t: &mut [u32], m: &mut [u8], k: usize, s: &[u32]) -> Result<Option<u32>, Why> {
     let b = block(k);
     let pc = t[b + PC];
     let user = user_mode(t, b);
@@ -1121,8 +1133,7 @@ pub fn run(checked: bool, t: &mut [u32], m: &mut [u8], schedule: &[u32], limit: 
         if accepted == limit {
             return Ok(Run { accepted, stop: Stop::Limit });
         }
-        let s = [s[0], s[1], s[2], s[3], s[4], s[5]];
-        if let Answer::Refused(why) = step(false, t, m, &s) {
+        if let Answer::Refused(why) = step(false, t, m, s) {
             return Ok(Run { accepted, stop: Stop::Refused(why) });
         }
         accepted += 1;

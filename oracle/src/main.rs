@@ -178,7 +178,7 @@ fn demand(seed: u32, pairs: u32, off: Option<u32>, tables: bool) -> Outcome {
             Some(condition)
         }
     };
-    let figures = demand3::trial(seed, pairs as u64, &demand3::Terms { off, tables });
+    let figures = demand3::trial(seed, pairs as u64, &demand3::Terms { off, tables, ..demand3::Terms::CLAIM });
     print(figures.print().as_bytes())?;
     if off.is_none() && figures.broken() != 0 {
         return Err("it breaks".into());
@@ -340,6 +340,7 @@ fn table_word(i: usize) -> String {
         SIPIRR => "sipirr".into(),
         SIPIVECT => "sipivect".into(),
         INITRR => "initrr".into(),
+        CORE_REFUSALS => "refusal count".into(),
         128.. => format!("record {} word {}", (w - RECORDS) / 4, (w - RECORDS) % 4),
         _ => format!("block word {w}"),
     };

@@ -1,5 +1,5 @@
 //! Where each thing lies in the tables, and what sound tables are
-//! (01, "The machine in lent memory").
+//! (01, "The machine in lent memory"; block word 115 by request 5 of 02).
 
 // Header words.
 pub const CORES: usize = 0;
@@ -31,6 +31,7 @@ pub const EOIPENDING: usize = 104;
 pub const SIPIRR: usize = 112;
 pub const SIPIVECT: usize = 113;
 pub const INITRR: usize = 114;
+pub const CORE_REFUSALS: usize = 115;
 pub const RECORDS: usize = 128;
 
 // Special registers (table 5).
@@ -92,7 +93,7 @@ pub enum Clause {
     HeaderZeros,
     Lines,
     BlockWord71,
-    BlockWords115,
+    BlockWords116,
     RecordZero,
     Register0,
     Running,
@@ -125,7 +126,7 @@ pub const CLAUSES: [(Clause, &str); 30] = [
     (Clause::HeaderZeros, "header words 30 and 31"),
     (Clause::Lines, "lines above bit 23"),
     (Clause::BlockWord71, "block word 71"),
-    (Clause::BlockWords115, "block words 115 to 127"),
+    (Clause::BlockWords116, "block words 116 to 127"),
     (Clause::RecordZero, "record 0 not zero"),
     (Clause::Register0, "general register 0"),
     (Clause::Running, "running not 0 or 1"),
@@ -185,8 +186,8 @@ fn sound_block(t: &[u32], b: usize, bytes: usize) -> Result<(), Clause> {
     if t[b + 71] != 0 {
         return Err(Clause::BlockWord71);
     }
-    if t[b + 115..b + 128].iter().any(|&w| w != 0) {
-        return Err(Clause::BlockWords115);
+    if t[b + 116..b + 128].iter().any(|&w| w != 0) {
+        return Err(Clause::BlockWords116);
     }
     if t[b + RECORDS..b + RECORDS + 4].iter().any(|&w| w != 0) {
         return Err(Clause::RecordZero);

@@ -7,6 +7,7 @@
 use crate::counts::Counts;
 use crate::generate::{damaged, Rng};
 use crate::machine::*;
+use crate::refusals::draw_counts;
 use crate::sides::{shuffle, Board};
 use crate::soundness::*;
 use crate::translate::trail;
@@ -69,6 +70,12 @@ pub fn translations(seed: u32) -> Vec<Translations> {
             idle = 0;
         }
         assert!(idle < 200_000, "{section}: {name} does not occur");
+    }
+    // Refusal counts of every sort, which no answer depends on.
+    let mut rng = Rng::new(seed as u64 ^ 0x5245_4655);
+    for g in &mut all {
+        draw_counts(&mut rng, &mut g.machine.tables);
+        g.sum = checksum(&g.machine.tables, &g.machine.memory);
     }
     all
 }

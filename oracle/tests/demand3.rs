@@ -1,6 +1,6 @@
 //! Demand 3 on random machines, and that the trial can fail.
 
-use oracle::demand3::{off_row, trial, Break, Figures, Terms};
+use oracle::demand3::{off_row, trial, Break, Figures, Terms, Whose};
 use oracle::ways::{Condition, CONDITIONS};
 
 const README: &str = include_str!("../README.md");
@@ -15,6 +15,9 @@ fn the_claim_holds() {
     assert!(accepted > 5 * f.group[2] && f.group[1] > 500, "{}", f.print());
     assert!(f.kinds.iter().all(|&n| n > 5_000), "{}", f.print());
     assert!([5, 6, 8, 9].iter().all(|&n| f.refused[n] > 20), "{}", f.print());
+    // Refusals count on both sides, also where the count is at its largest; none in the header.
+    assert_eq!((f.group_counted, f.other_counted), (f.group[2], f.others[2]));
+    assert!(f.at_the_largest > 1_000 && f.counts_differ > 1_000, "{}", f.print());
     // No entry, instruction or datum of either side lies outside memory, and no port is reached.
     assert_eq!((f.refused[4], f.refused[7], f.refused[10], f.header_changed), (0, 0, 0, 0));
     assert!(f.group_stores_left > 8_000 && f.other_stores_left > 5_000 && f.cas_wrote > 1_000, "{}", f.print());
@@ -26,7 +29,7 @@ fn the_claim_holds() {
 }
 
 fn off(condition: Condition, pairs: u64, tables: bool) -> Figures {
-    trial(86, pairs, &Terms { off: Some(condition), tables })
+    trial(86, pairs, &Terms { off: Some(condition), tables, ..Terms::CLAIM })
 }
 
 fn breaks(f: &Figures, kinds: &[Break]) -> u64 {
@@ -63,5 +66,25 @@ fn each_condition_is_needed() {
         }
         let row = off_row(condition, &f, &past);
         assert!(README.contains(&row), "row in README.md:\n{row}");
+    }
+}
+
+/// Where refusals of other cores count in a core of the group, the claim
+/// breaks: the group's own state includes its words 115.
+#[test]
+fn others_refusals_do_not_show() {
+    let turns: [(&str, Whose); 3] = [
+        ("a core of the group counts what others are refused", |group, _, core| match group >> core & 1 {
+            0 => group.trailing_zeros() as usize,
+            _ => core,
+        }),
+        ("the next core counts", |_, cores, core| (core + 1) % cores),
+        ("core 0 counts all", |_, _, _| 0),
+    ];
+    for (name, whose) in turns {
+        let f = trial(86, 300, &Terms { whose, ..Terms::CLAIM });
+        assert!(f.broken() > 40, "{name}: {}", f.print());
+        assert_eq!(f.broken(), breaks(&f, &[Break::Block]), "{name}: {}", f.print());
+        println!("{name}: {} of {} pairs", f.broken(), f.pairs);
     }
 }

@@ -4,7 +4,7 @@
 use oracle::isa::{self, alures, mures, Op, ROWS};
 use oracle::machine::{hazard, word, Walk};
 use oracle::soundness::*;
-use oracle::{make, run, sound, step, Answer, Run, Stop, Why};
+use oracle::{make, run, sound, step, Answer, Clause, Run, Stop, Why};
 
 struct M {
     t: Vec<u32>,
@@ -20,10 +20,36 @@ impl M {
         M { t, m }
     }
     fn step(&mut self, s: [u32; 6]) -> Answer {
+        self.call(&s)
+    }
+    /// A call of step with any number of words.
+    fn call(&mut self, s: &[u32]) -> Answer {
         sound(&self.t, &self.m).expect("sound before");
-        let answer = step(true, &mut self.t, &mut self.m, &s);
+        let answer = step(true, &mut self.t, &mut self.m, s);
         sound(&self.t, &self.m).expect("sound after");
         answer
+    }
+    /// The refusal counts: header word 2, then word 115 of each core.
+    fn refusals(&self) -> Vec<u32> {
+        let words = (0..self.t[CORES] as usize).map(|k| self.t[block(k) + 115]);
+        [self.t[2]].into_iter().chain(words).collect()
+    }
+    fn set_refusals(&mut self, counts: &[u32]) {
+        self.t[2] = counts[0];
+        counts[1..].iter().enumerate().for_each(|(k, &n)| self.t[block(k) + 115] = n);
+    }
+    /// A call that is refused with this number, and the counts after it; nothing
+    /// else has changed.
+    fn refused(&mut self, s: &[u32], number: u32) -> Vec<u32> {
+        let (mut t, m) = (self.t.clone(), self.m.clone());
+        match self.call(s) {
+            Answer::Refused(why) => assert_eq!(why.number(), number, "{s:?}"),
+            answer => panic!("{s:?}: {answer}"),
+        }
+        t[2] = self.t[2];
+        (0..t[CORES] as usize).for_each(|k| t[block(k) + 115] = self.t[block(k) + 115]);
+        assert_eq!((&self.t, &self.m), (&t, &m), "{s:?}");
+        self.refusals()
     }
     /// Lays an instruction at the (system mode) pc and takes a core step.
     fn exec(&mut self, i: u32) -> Answer {
@@ -358,7 +384,7 @@ fn store_buffer_figures() {
     assert!(!hazard(&m.t, B, 0x104, 4));
     assert_eq!(m.exec(itype(Op::Lhu, 0, 5, 0x100)), Answer::Refused(Why::Hazard));
     assert_eq!(m.exec(itype(Op::Lw, 0, 5, 0x104)), Answer::Done);
-    assert_eq!(m.t[REFUSALS], 1);
+    assert_eq!(m.refusals(), [0, 1]);
     // Both leave in order.
     m.step([4, 0, 0, 0, 0, 0]);
     assert_eq!(word(&m.m, 0x100), Some(0x1122_3344));
@@ -463,7 +489,7 @@ fn run_counts_as_single_steps() {
     let schedule: Vec<u32> = [line, line, empty, line].concat();
     let go = |schedule: &[u32], limit| {
         let mut m = M::new(1, 1);
-        (run(true, &mut m.t, &mut m.m, schedule, limit), m.t[REFUSALS])
+        (run(true, &mut m.t, &mut m.m, schedule, limit), m.t[B + 115])
     };
     let refused = Stop::Refused(Why::BufferEmpty);
     assert_eq!(go(&schedule, 9), (Ok(Run { accepted: 2, stop: refused }), 1));
@@ -480,14 +506,222 @@ fn run_counts_as_single_steps() {
     assert_eq!(run(true, &mut m.t, &mut m.m, &schedule[..7], 9), Err(4));
 }
 
+/// Request 5 of 02: kinds 0 to 8 with a core that is there count in its word
+/// 115, whatever the refusal is.
 #[test]
-fn refusal_count_stays_at_the_top() {
-    let mut m = M::new(1, 1);
-    m.t[REFUSALS] = 0xFFFF_FFFE;
-    for _ in 0..3 {
-        assert_eq!(m.step([15, 0, 0, 0, 0, 0]), Answer::Refused(Why::Kind));
-        assert_eq!(m.t[REFUSALS], 0xFFFF_FFFF);
+fn a_core_counts_its_refusals() {
+    // Stray words, a va and rights too wide. A core step has no such words.
+    let mut m = M::new(3, 1);
+    assert_eq!(m.refused(&[1, 0, 0x10_0000, 0, 0, 0], 5), [0, 1, 0, 0]);
+    assert_eq!(m.refused(&[1, 2, 0xFFFF_FFFF, 0, 0, 0], 5), [0, 1, 0, 1]);
+    assert_eq!(m.refused(&[2, 1, 0, 0, 8, 0], 5), [0, 1, 1, 1]);
+    assert_eq!(m.refused(&[2, 1, 0, 0, 0xFFFF_FFFF, 0], 5), [0, 1, 2, 1]);
+    m.set_refusals(&[0, 0, 0, 0]);
+    for kind in 1..9 {
+        let words = [kind, kind % 3, 0, 0, 0, 1];
+        let before = m.t[block(kind as usize % 3) + 115];
+        m.refused(&words, 5);
+        assert_eq!(m.t[block(kind as usize % 3) + 115], before + 1);
     }
+    assert_eq!(m.refusals(), [0, 2, 3, 3]);
+
+    // 6 by every kind, of a core that does not run and has nothing pending.
+    let mut m = M::new(4, 1);
+    for kind in 0..9 {
+        assert_eq!(m.refused(&[kind, 3, 0, 0, 0, 0], 6), [0, 0, 0, 0, kind + 1]);
+    }
+    assert_eq!(m.refused(&[4, 0, 0, 0, 0, 0], 6), [0, 1, 0, 0, 9]);
+
+    // 7: a fetch, and the entry of a walk.
+    let mut m = M::new(1, 1);
+    m.t[B + PC] = 0x1000;
+    assert_eq!(m.refused(&[0, 0, 0, 0, 0, 0], 7), [0, 1]);
+    m.t[B + MODE] = 1;
+    let w = Walk::new(0, 0, 2, 7, 1);
+    m.hold(w);
+    assert_eq!(m.refused(&[2, 0, w.first, w.base, 0, 0], 7), [0, 2]);
+    assert_eq!(m.refused(&[3, 0, w.first, w.base, 0, 0], 7), [0, 3]);
+
+    // 8: a ninth store.
+    let mut m = M::new(1, 1);
+    for n in 0..8 {
+        assert_eq!(m.exec(itype(Op::Sw, 0, 0, 0x100 + 4 * n)), Answer::Done);
+    }
+    m.m[0x20..0x24].copy_from_slice(&itype(Op::Sw, 0, 0, 0x200).to_le_bytes());
+    assert_eq!(m.refused(&[0, 0, 0, 0, 0, 0], 8), [0, 1]);
+
+    // 9: a twenty-fourth walk, new and extended. Entry 0 of page 0 is page 0.
+    let mut m = M::new(1, 1);
+    m.t[B + MODE] = 1;
+    m.m[..4].copy_from_slice(&0x0000_0F80u32.to_le_bytes());
+    for va in 0..23 {
+        assert_eq!(m.step([1, 0, va, 0, 0, 0]), Answer::Done);
+    }
+    let w = Walk::new(0, 0, 2, 7, 0);
+    assert_eq!(m.refused(&[1, 0, 23, 0, 0, 0], 9), [0, 1]);
+    assert_eq!(m.refused(&[2, 0, w.first, w.base, 0, 0], 9), [0, 2]);
+
+    // 10, which sound tables do not give: all free records are lost.
+    let mut m = M::new(1, 1);
+    m.t[B + MODE] = 1;
+    m.t[B + FREE] = 0;
+    assert_eq!(step(false, &mut m.t, &mut m.m, &[1, 0, 0, 0, 0, 0]), Answer::Refused(Why::NoFreeRecord));
+    assert_eq!((Why::NoFreeRecord.number(), m.refusals()), (10, vec![0, 1]));
+}
+
+/// A core not there, kinds from 9 on and calls of other than six words count
+/// in header word 2.
+#[test]
+fn the_header_counts_the_rest() {
+    for cores in 1..5 {
+        let mut m = M::new(cores, 1);
+        let mut count = 0;
+        let mut counted = |m: &mut M, s: &[u32], number| {
+            count += 1;
+            let mut expected = vec![0; cores as usize + 1];
+            expected[0] = count;
+            assert_eq!(m.refused(s, number), expected, "{s:?}");
+        };
+        for kind in 0..9 {
+            for core in [cores, cores + 1, 4, 255, 256, 0x8000_0000, 0xFFFF_FFFF] {
+                counted(&mut m, &[kind, core, 0, 0, 0, 0], 5);
+                counted(&mut m, &[kind, core, 0xFFFF_FFFF, 0, 0xFFFF_FFFF, 1], 5);
+            }
+        }
+        // Lines that are numbers of cores too.
+        for line in 0..4 {
+            counted(&mut m, &[9, line, 0, 0, 0, 0], 6);
+            counted(&mut m, &[10, line, 0, 0, 0, 0], 6);
+            counted(&mut m, &[9, line, 1, 0, 0, 0], 5);
+            counted(&mut m, &[10, line, 0, 0, 0, 1], 5);
+            counted(&mut m, &[11, line, 0, 1, 0, 0], 5);
+            counted(&mut m, &[11, line, 2, 0, 0, 0], 5);
+        }
+        for kind in 9..12 {
+            counted(&mut m, &[kind, 24, 0, 0, 0, 0], 5);
+            counted(&mut m, &[kind, 0xFFFF_FFFF, 0, 0, 0, 0], 5);
+        }
+        for kind in [12, 13, 15, 16, 256, 0x8000_0000, 0xFFFF_FFFF] {
+            counted(&mut m, &[kind, 0, 0, 0, 0, 0], 5);
+            counted(&mut m, &[kind, cores - 1, 0, 0, 0, 0], 5);
+            counted(&mut m, &[kind, cores, 0, 0, 0, 0], 5);
+        }
+        // Their first two words would be a good step's.
+        for s in [[4, 0, 0, 0, 0, 0, 0], [0, 0, 0, 0, 0, 0, 0], [1, 0, 0, 0, 0, 0, 0], [11, 3, 1, 0, 0, 0, 0]] {
+            for length in [0, 1, 2, 3, 4, 5, 7] {
+                counted(&mut m, &s[..length], 5);
+            }
+            counted(&mut m, &[s, s].concat(), 5);
+        }
+        assert_eq!(m.call(&[4, 0, 0, 0, 0]), Answer::Refused(Why::Length));
+    }
+}
+
+/// Each count stays at its largest by itself.
+#[test]
+fn refusal_counts_stay_at_the_top() {
+    const TOP: u32 = 0xFFFF_FFFF;
+    let (of_core, of_none) = ([4, 1, 0, 0, 0, 0], [15, 1, 0, 0, 0, 0]);
+    let mut m = M::new(2, 1);
+    m.set_refusals(&[TOP - 1, TOP, TOP - 1]);
+    assert_eq!(m.refused(&of_core, 6), [TOP - 1, TOP, TOP]);
+    assert_eq!(m.refused(&of_core, 6), [TOP - 1, TOP, TOP]);
+    assert_eq!(m.refused(&of_none, 5), [TOP, TOP, TOP]);
+    assert_eq!(m.refused(&of_none, 5), [TOP, TOP, TOP]);
+    assert_eq!(m.refused(&[], 5), [TOP, TOP, TOP]);
+    m.set_refusals(&[TOP, 0, TOP - 2]);
+    assert_eq!(m.refused(&of_core, 6), [TOP, 0, TOP - 1]);
+    assert_eq!(m.refused(&of_core, 6), [TOP, 0, TOP]);
+    assert_eq!(m.refused(&of_none, 5), [TOP, 0, TOP]);
+    m.set_refusals(&[7, TOP, TOP]);
+    assert_eq!(m.refused(&of_none, 5), [8, TOP, TOP]);
+    assert_eq!(m.refused(&of_core, 6), [8, TOP, TOP]);
+    m.set_refusals(&[0x7FFF_FFFF, TOP, 0x7FFF_FFFF]);
+    assert_eq!(m.refused(&of_none, 5), [0x8000_0000, TOP, 0x7FFF_FFFF]);
+    assert_eq!(m.refused(&of_core, 6), [0x8000_0000, TOP, 0x8000_0000]);
+}
+
+/// Make clears the counts; INIT, start of a core and other steps keep them.
+#[test]
+fn a_reset_keeps_the_refusal_counts() {
+    let mut t = vec![0xFFFF_FFFF; table_words(4)];
+    make(4, &mut t, &[0; PAGE]).unwrap();
+    assert_eq!(M { t, m: vec![0; PAGE] }.refusals(), [0; 5]);
+
+    let counts = [5, 1, 0xFFFF_FFFF, 3, 0x8000_0000];
+    let mut m = M::new(4, 1);
+    m.set_refusals(&counts);
+    for k in 0..4 {
+        let b = block(k as usize);
+        m.t[b + INITRR] = 1;
+        m.t[b + SIPIRR] = 1;
+        assert_eq!(m.step([7, k, 0, 0, 0, 0]), Answer::Done);
+        assert_eq!(m.refusals(), counts);
+        assert_eq!(m.step([8, k, 0, 0, 0, 0]), Answer::Done);
+        assert_eq!(m.refusals(), counts);
+    }
+    // A core step done and one that is interrupted, a line.
+    assert_eq!(m.exec(itype(Op::Sw, 0, 0, 0x100)), Answer::Done);
+    assert_eq!(m.step([4, 0, 0, 0, 0, 0]), Answer::Done);
+    assert_eq!(m.exec(rtype(Op::Sysc, 0, 0, 0)), Answer::Interrupt(6));
+    assert_eq!(m.step([11, 2, 1, 0, 0, 0]), Answer::Done);
+    assert_eq!(m.refusals(), counts);
+}
+
+/// Word 115 is free; its neighbours are not. Refusal 4 counts nowhere.
+#[test]
+fn soundness_leaves_the_refusal_counts_free() {
+    for k in 0..2 {
+        for count in [0, 1, 0x7FFF_FFFF, 0x8000_0000, 0xFFFF_FFFE, 0xFFFF_FFFF] {
+            let mut m = M::new(2, 1);
+            m.t[block(k) + 115] = count;
+            m.t[2] = count;
+            assert_eq!(sound(&m.t, &m.m), Ok(()));
+        }
+        for (word, clause) in [
+            (71, Clause::BlockWord71),
+            (114, Clause::Initrr),
+            (116, Clause::BlockWords116),
+            (127, Clause::BlockWords116),
+        ] {
+            let mut m = M::new(2, 1);
+            m.set_refusals(&[6, 7, 8]);
+            m.t[block(k) + word] = if word == 114 { 2 } else { 1 };
+            assert_eq!(sound(&m.t, &m.m), Err(clause));
+            let before = m.t.clone();
+            for s in [&[4, 0, 0, 0, 0, 0][..], &[15, 0, 0, 0, 0, 0], &[11, 3, 1, 0, 0, 0], &[0, 5, 0, 0, 0, 0], &[]] {
+                assert_eq!(step(true, &mut m.t, &mut m.m, s), Answer::Refused(Why::NotSound));
+                assert_eq!(run(true, &mut m.t, &mut m.m, s, 9), Err(4));
+                assert_eq!(m.t, before);
+            }
+        }
+    }
+}
+
+/// The refused step that stops a run counts where its single step would; 11
+/// counts nowhere.
+#[test]
+fn a_run_counts_where_single_steps_do() {
+    let line = [11, 3, 1, 0, 0, 0];
+    let go = |schedule: &[u32]| {
+        let mut m = M::new(2, 1);
+        m.set_refusals(&[6, 0xFFFF_FFFE, 8]);
+        (run(true, &mut m.t, &mut m.m, schedule, 9).map(|r| r.stop), m.refusals())
+    };
+    let stopped = |why| Ok(Stop::Refused(why));
+    const TOP: u32 = 0xFFFF_FFFF;
+    let after = |s: [u32; 6]| go(&[line, s, s, s].concat());
+    assert_eq!(after([4, 0, 0, 0, 0, 0]), (stopped(Why::BufferEmpty), vec![6, TOP, 8]));
+    assert_eq!(after([8, 1, 0, 0, 0, 0]), (stopped(Why::NoSipiPending), vec![6, TOP - 1, 9]));
+    assert_eq!(after([1, 1, 0, 1, 0, 0]), (stopped(Why::StrayWord), vec![6, TOP - 1, 9]));
+    assert_eq!(after([4, 2, 0, 0, 0, 0]), (stopped(Why::Core), vec![7, TOP - 1, 8]));
+    assert_eq!(after([9, 1, 0, 0, 0, 0]), (stopped(Why::LineDown), vec![7, TOP - 1, 8]));
+    assert_eq!(after([12, 1, 0, 0, 0, 0]), (stopped(Why::Kind), vec![7, TOP - 1, 8]));
+    assert_eq!(after(line), (Ok(Stop::End), vec![6, TOP - 1, 8]));
+    for words in [1, 5, 7, 11] {
+        assert_eq!(go(&[4; 12][..words]), (Err(11), vec![6, TOP - 1, 8]));
+    }
+    assert_eq!(go(&[4; 6150]), (Err(11), vec![6, TOP - 1, 8]));
 }
 
 #[test]
@@ -611,6 +845,14 @@ fn run_program() {
     jump.resize(2 + 4096, 0);
     jump.extend([0; 72]);
     assert_eq!(simulate(&jump), "step answer\n0 done\n1 done\n2 interrupt 3\nend 3 0\n");
+    // It counts every refused step, whoever's it is.
+    let mut counted = vec![2, 1];
+    counted.resize(2 + 4096, 0);
+    for word in [[4, 0, 0, 0, 0, 0], [4, 1, 0, 0, 0, 0], [4, 2, 0, 0, 0, 0], [9, 1, 0, 0, 0, 0]].concat() {
+        counted.extend(u32::to_le_bytes(word));
+    }
+    let answers = "step answer\n0 refused 6\n1 refused 6\n2 refused 5\n3 refused 6\nend 0 4\n";
+    assert_eq!(simulate(&counted), answers);
     for bad in [&[][..], &[1], &[0, 1], &[5, 1], &[1, 0], &[1, 9], &input[..4097]] {
         assert_eq!(simulate(bad), "bad\n");
     }

@@ -25,10 +25,12 @@ fn the_seed_makes_the_files() {
     assert!(vectors::write_texts(&texts::texts(seed), seed) == TEXTS, "texts.bin");
 }
 
-/// Every answer and check sum; soundness is kept; a refused step changes the
-/// count alone, and refusal 4 not even that; the unchecked step agrees.
+/// Every answer and check sum; soundness is kept; a refused step changes its
+/// count alone, and refusal 4 not even that; an accepted one changes no count;
+/// the unchecked step agrees.
 #[test]
 fn steps_are_as_the_file_says() {
+    assert!(STEPS.len() < 3_200_000);
     for v in vectors::read_steps(STEPS).unwrap().0 {
         let (mut t, mut m) = (v.machine.tables.clone(), v.machine.memory.clone());
         assert_eq!(vectors::checksum(&t, &m), v.sum);
@@ -40,9 +42,14 @@ fn steps_are_as_the_file_says() {
             if let Answer::Refused(why) = answer {
                 let mut expected = t0.clone();
                 if why.number() != 4 {
-                    expected[REFUSALS] = expected[REFUSALS].saturating_add(1);
+                    let [kind, core, ..] = s.words;
+                    let core_is_there = kind < 9 && core < t0[CORES];
+                    let count = if core_is_there { 32 + 256 * core as usize + 115 } else { 2 };
+                    expected[count] = expected[count].saturating_add(1);
                 }
                 assert_eq!((&t, &m), (&expected, &m0));
+            } else {
+                assert_eq!(refusal_words(&t), refusal_words(&t0));
             }
             if v.machine.damage == 0 {
                 assert_eq!(sound(&t, &m), Ok(()));
@@ -52,6 +59,11 @@ fn steps_are_as_the_file_says() {
             }
         }
     }
+}
+
+/// Every refusal count of the tables.
+fn refusal_words(t: &[u32]) -> Vec<u32> {
+    (0..t[0] as usize).map(|k| t[32 + 256 * k + 115]).chain([t[2]]).collect()
 }
 
 /// Run equals that many single steps.
@@ -134,16 +146,17 @@ fn texts_are_as_the_file_says() {
     }
 }
 
-/// Each thing that can occur does so twenty times, sums and translations 24
-/// times, texts as often as README.md says above their tables, and README.md
-/// has the tables that `oracle counts` prints.
+/// Each thing that can occur does so twenty times, sums, refusal counts and
+/// translations 24 times, texts as often as README.md says above their tables,
+/// and README.md has the tables that `oracle counts` prints.
 #[test]
 fn counts() {
     let mut counts = Counts::default();
     vectors::read_steps(STEPS).unwrap().0.iter().for_each(|v| counts.vector(v));
     for (section, name) in Counts::expected() {
         let times = counts.get(section, &name);
-        assert!(times >= if section == "sum" { 24 } else { 20 }, "{section}: {name} occurs {times} times");
+        let least = if section == "sum" || section.starts_with("refus") { 24 } else { 20 };
+        assert!(times >= least, "{section}: {name} occurs {times} times");
     }
     assert_eq!(counts.get("answer", "interrupt 0") + counts.get("answer", "refused 10"), 0);
     assert_eq!(isa::ROWS.len(), 61);

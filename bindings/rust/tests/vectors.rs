@@ -5,8 +5,10 @@
 //! How often each thing occurred is held against vectors.counts, and these counts against the tables of
 //! oracle/README.md, so that a file with less in it fails. The last tests show that the others can fail.
 
-use mips86::{apart, disassemble_into, disassembled, make, reach, run, step, table_words, translate_into};
-use mips86::{Answer, Machine, Stop, PAGE_BYTES, STEP_WORDS};
+use mips86::{
+    apart, core_refusals, disassemble_into, disassembled, make, reach, run, step, table_words, translate_into,
+};
+use mips86::{Answer, Machine, Stop, PAGE_BYTES, REFUSALS, STEP_WORDS};
 use std::collections::BTreeMap;
 use std::fmt::Debug;
 use std::hint::black_box;
@@ -255,6 +257,7 @@ fn replay_steps(reader: &mut Reader, counts: &mut Counts) -> Checked {
 }
 
 fn take_step(reader: &mut Reader, counts: &mut Counts, machine: &mut Machine, words: &[u32]) -> Checked {
+    let before = Refusals::of(machine);
     let answer = step(&mut machine.tables, &mut machine.memory, words);
     let (number, name) = match answer {
         Answer::Done => (0, "done".to_owned()),
@@ -269,12 +272,71 @@ fn take_step(reader: &mut Reader, counts: &mut Counts, machine: &mut Machine, wo
     counts.one("steps");
     counts.one(name);
     counts.one(format!("kind {kind} {accepted}"));
+    before.count(counts, words, answer);
     Ok(())
+}
+
+/// The counts of refusals: the header's, and those of the cores.
+struct Refusals {
+    cores: u32,
+    header: u32,
+    own: Vec<u32>,
+}
+
+impl Refusals {
+    /// Of damaged tables those that there are.
+    fn of(machine: &Machine) -> Refusals {
+        let word = |place: usize| machine.tables.get(place).copied();
+        let own = (0..4).map_while(|core| word(core_refusals(core))).collect();
+        Refusals { cores: word(0).unwrap_or(0), header: word(REFUSALS).unwrap_or(0), own }
+    }
+
+    /// Whether the step is of a core that is there.
+    fn is_own(&self, words: &[u32]) -> bool {
+        words[0] <= 8 && words[1] < self.cores
+    }
+
+    /// Counts what a step met; these are the counts before it.
+    fn count(&self, counts: &mut Counts, words: &[u32], answer: Answer) {
+        match (answer, self.is_own(words)) {
+            (Answer::Refused(4), true) => counts.one("refused 4, a core"),
+            (Answer::Refused(4), false) => counts.one("refused 4, another step"),
+            (Answer::Refused(_), false) => {
+                counts.add("header reaches", (self.header == u32::MAX - 1).into());
+                counts.add("header stays", (self.header == u32::MAX).into());
+                counts.add("header, own largest", self.own.contains(&u32::MAX).into());
+            }
+            (_, true) => self.count_own(counts, words, answer),
+            (_, false) => {}
+        }
+    }
+
+    fn count_own(&self, counts: &mut Counts, words: &[u32], answer: Answer) {
+        let core = words[1] as usize;
+        let own = self.own[core];
+        match answer {
+            Answer::Refused(_) => {
+                counts.add("own reaches", (own == u32::MAX - 1).into());
+                counts.add("own stays", (own == u32::MAX).into());
+                counts.add("own, header largest", (self.header == u32::MAX).into());
+            }
+            Answer::Interrupt(_) => counts.add("interrupt own", (own != 0).into()),
+            Answer::Done if words[0] >= 7 => {
+                let name = if words[0] == 7 { "INIT" } else { "start" };
+                let another = (0..self.own.len()).any(|other| other != core && self.own[other] != 0);
+                counts.add(format!("{name} own"), (own != 0).into());
+                counts.add(format!("{name} own largest"), (own == u32::MAX).into());
+                counts.add(format!("{name} another"), another.into());
+            }
+            Answer::Done => {}
+        }
+    }
 }
 
 /// The run gets so many words from the front of the schedule, be they whole steps or not.
 fn take_run(reader: &mut Reader, counts: &mut Counts, machine: &mut Machine, schedule: &[u32]) -> Checked {
     let (length, limit) = (reader.length(2, schedule.len())?, reader.number(4)?);
+    let before = Refusals::of(machine);
     let ran = run(&mut machine.tables, &mut machine.memory, &schedule[..length], limit);
     let (own, stop, name) = match ran.stop {
         Stop::End => (0, 0, "run end".to_owned()),
@@ -288,6 +350,11 @@ fn take_run(reader: &mut Reader, counts: &mut Counts, machine: &mut Machine, sch
     reader.expect("the sum after it", 4, sum(machine))?;
     counts.one(name);
     counts.add("run refused by a step", (stop >= 100).into());
+    if stop >= 100 {
+        let refused = &schedule[STEP_WORDS * ran.accepted as usize..];
+        let whose = if before.is_own(refused) { "own" } else { "header" };
+        counts.one(format!("run refused {whose}"));
+    }
     Ok(())
 }
 
@@ -484,7 +551,27 @@ const STEPS_TABLES: &str = "\
 | limit spent | {run limit} |
 | a step's refusal | {run refused by a step} |
 | refused 4 | {run refused 4} |
-| refused 11 | {run refused 11} |";
+| refused 11 | {run refused 11} |
+
+| fact of a refusal count | times |
+|---|---|
+| INIT done, word 115 of its core not 0 | {INIT own} |
+| INIT done, word 115 of its core at the largest | {INIT own largest} |
+| INIT done, word 115 of another core not 0 | {INIT another} |
+| start of a core done, word 115 of its core not 0 | {start own} |
+| start of a core done, word 115 of its core at the largest | {start own largest} |
+| start of a core done, word 115 of another core not 0 | {start another} |
+| core step interrupted, word 115 of its core not 0 | {interrupt own} |
+| word 115 one below the largest, reaches it | {own reaches} |
+| word 115 at the largest, stays | {own stays} |
+| word 115 counts, header word 2 at the largest | {own, header largest} |
+| header word 2 one below the largest, reaches it | {header reaches} |
+| header word 2 at the largest, stays | {header stays} |
+| header word 2 counts, some word 115 at the largest | {header, own largest} |
+| refused 4, kinds 0 to 8 with a core that is there | {refused 4, a core} |
+| refused 4, another step | {refused 4, another step} |
+| run stops by a refusal counted in word 115 | {run refused own} |
+| run stops by a refusal counted in header word 2 | {run refused header} |";
 
 const GROUPS_TABLES: &str = "\
 {machines} machines, {questions} questions.
