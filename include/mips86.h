@@ -47,11 +47,11 @@ extern "C" {
  */
 
 /*
- * The counts of refusals, by their places in the tables. A refused step of six words whose kind is 0 to 8 and whose
- * core is there counts in that core's word, whatever the refusal, also 5 for its other words. In the header count a
- * core that is not there, kinds 9 and above, and calls of more or fewer than six words. Refusal 4 counts nowhere, nor
- * does 11 of run. Each count stays at 4,294,967,295 once there. Make puts 0; nothing else writes them, INIT and the
- * start of a core neither.
+ * The words of the tables that count refusals. A refused step of six words whose kind is 0 to 8 and whose core is there
+ * counts in that core's word, whatever the refusal, also 5 where its other words are wrong. The header's word counts
+ * all other refusals: a core that is not there, kinds 9 and above, calls of more or fewer than six words. Refusal 4
+ * counts nowhere, nor does 11 of run. Each count stays at 4,294,967,295 once there. Make puts 0. No accepted step
+ * changes a count, INIT and the start of a core neither.
  */
 #define MIPS86_REFUSALS ((size_t)2)
 #define MIPS86_CORE_REFUSALS(core) (32 + 256 * (size_t)(core) + 115)
@@ -112,8 +112,8 @@ uint32_t mips86_step(uint32_t *tables, size_t ntables, uint8_t *memory, size_t n
  * Takes the steps of a schedule one after the other: to its end, until `limit` steps are accepted, or up to and
  * with the first that is refused. The end is looked at before the limit.
  * Answers 0 at the end, 1 where the limit is spent, or a refusal: 4 and 11 before any step, and then nothing of the
- * machine is written, or 5 to 10 of a step, which is counted as by itself. Writes to *accepted how many steps were
- * accepted (0 with 4 and 11).
+ * machine is written, or 5 to 10 of a step, which is counted as a single step is. Writes to *accepted how many steps
+ * were accepted (0 with 4 and 11).
  * The tables are checked once, so a run costs less than its steps by themselves.
  */
 uint32_t mips86_run(uint32_t *tables, size_t ntables, uint8_t *memory, size_t nmemory, const uint32_t *schedule,
@@ -148,8 +148,9 @@ uint32_t mips86_reach(const uint32_t *tables, size_t ntables, const uint8_t *mem
  * it reaches are the same. On each of the two carry out any list of single steps, of kinds 0 to 4, of cores that run at
  * the start, each up to its first interrupt, the group's steps the same in both and in the same order; nobody else
  * writes the machines meanwhile. Then, whatever the others hold and do, the group gets the same answers, and after each
- * of its steps all words of its blocks and all bytes of its pages are the same in both. In each machine a page that is
- * neither writable nor table for either side keeps its bytes, and a table page keeps them but for accessed bits.
+ * of its steps all words of its blocks, its cores' counts of refusals among them, and all bytes of its pages are the
+ * same in both. In each machine a page that is neither writable nor table for either side keeps its bytes, and a table
+ * page keeps them but for accessed bits.
  */
 uint32_t mips86_apart(const uint32_t *tables, size_t ntables, const uint8_t *memory, size_t nmemory, uint32_t group);
 

@@ -1,4 +1,5 @@
-//! The machines and schedules that are timed. Each schedule has 1,024 steps, and all of them are accepted.
+//! The machines and schedules that are timed. Each schedule has 1,024 steps. All of them are accepted, but for those of
+//! `refused`, of which none is.
 
 /// A machine, and the steps that it takes from there.
 pub struct Case {
@@ -6,6 +7,8 @@ pub struct Case {
     pub tables: Vec<u32>,
     pub memory: Vec<u8>,
     pub schedule: Vec<u32>,
+    /// How many of the steps are accepted.
+    pub accepted: usize,
 }
 
 const STEPS: usize = 1024;
@@ -103,7 +106,7 @@ pub fn system() -> Case {
     tables[BLOCK + 8] = 0x400;
     put(&mut memory, 0x500, 0x1234_5678);
     let schedule = load(&mut memory, 0, [0; 4]);
-    Case { name: "system mode: ALU, load, store", tables, memory, schedule }
+    Case { name: "system mode: ALU, load, store", tables, memory, schedule, accepted: STEPS }
 }
 
 /// Core 0 of a machine as made holds these walks, in records from 1 on.
@@ -137,7 +140,7 @@ pub fn user() -> Case {
     tables[BLOCK + 8] = 0x20 << 12;
     put(&mut memory, 0x2100, 0x1234_5678);
     let schedule = load(&mut memory, 0x1000, [code[0], code[1], data[0], data[1]]);
-    Case { name: "user mode: ALU, load, store by held walks", tables, memory, schedule }
+    Case { name: "user mode: ALU, load, store by held walks", tables, memory, schedule, accepted: STEPS }
 }
 
 /// A core that drops its walks in system mode (flush) and returns to user mode (eret); there its TLB walks seven pages anew, each by
@@ -174,7 +177,7 @@ pub fn tlb() -> Case {
     let code = walk(FIRST, 0, RIGHTS, 3);
     turn.extend([0, 0, code[0], code[1], 0, 0]);
     let schedule = turn.into_iter().cycle().take(6 * STEPS).collect();
-    Case { name: "TLB: create, accessed, extend", tables, memory, schedule }
+    Case { name: "TLB: create, accessed, extend", tables, memory, schedule, accepted: STEPS }
 }
 
 /// The system-mode loop with external interrupts let through (bit 1 of sr): each instruction looks for one, and none is pending.
@@ -224,5 +227,23 @@ pub fn interrupts() -> Case {
     }
     turn.extend([program; 8]);
     let schedule = turn.concat().into_iter().cycle().take(6 * STEPS).collect();
-    Case { name: "interrupts of 24 lines, taken and ended", tables, memory, schedule }
+    Case { name: "interrupts of 24 lines, taken and ended", tables, memory, schedule, accepted: STEPS }
+}
+
+/// Steps that are refused: of a core, by its empty store buffer and by a stray word, which its own word counts; and of
+/// a core that is not there and of no kind, which the header counts. On a machine of one core, and of four.
+pub fn refused() -> Vec<Case> {
+    let case = |name, cores: usize, steps: [[u32; 6]; 2]| {
+        let (tables, memory) = machine(cores, 1);
+        let schedule = steps.concat().into_iter().cycle().take(6 * STEPS).collect();
+        Case { name, tables, memory, schedule, accepted: 0 }
+    };
+    let own = |core| [[4, core, 0, 0, 0, 0], [4, core, 0, 0, 0, 1]];
+    let header = [[4, 4, 0, 0, 0, 0], [15, 0, 0, 0, 0, 0]];
+    vec![
+        case("refused, counted by the core, one core", 1, own(0)),
+        case("refused, counted in the header, one core", 1, header),
+        case("refused, counted by the core, four cores", 4, own(3)),
+        case("refused, counted in the header, four cores", 4, header),
+    ]
 }

@@ -22,7 +22,7 @@ static void check_at(int line, const char *what, unsigned long found, unsigned l
 /* places of the tables */
 enum { CORES = 0, PAGES = 1, REFUSALS = 2, LINES = 3, BLOCK = 32, PTO = 37, ASID = 38, MODE = 39, PC = 64 };
 enum { CORE_0_REFUSALS = 32 + 115 };
-enum { RUNNING = 67, STORES = 68, WALKS = 69, FREE = 70, PORTS = 72, RECORDS = 128 };
+enum { RUNNING = 67, STORES = 68, WALKS = 69, FREE = 70, PORTS = 72, SIPIRR = 112, INITRR = 114, RECORDS = 128 };
 
 /* a machine, and a copy of it to compare with; there is room for the fifth core that make refuses */
 #define WORDS MIPS86_TABLE_WORDS(MIPS86_MOST_CORES + 1)
@@ -121,12 +121,12 @@ static void test_example(void) {
 }
 
 static void test_lengths(void) {
-    static const uint32_t seven[7] = {11, 3, 1, 0, 0, 0, 0};
+    static const uint32_t seven[7] = {4, 0, 0, 0, 0, 0, 0};
     make(1, 1);
     remember();
-    CHECK(step(line3, 5), 105);
+    CHECK(step(drain, 5), 105);
     CHECK(step(seven, 7), 105);
-    CHECK(step(line3, 0), 105);
+    CHECK(step(drain, 0), 105);
     expected[REFUSALS] = 3;
     CHECK(SAME(), 1);
     tables[REFUSALS] = 0xFFFFFFFF;
@@ -135,7 +135,7 @@ static void test_lengths(void) {
     CHECK(SAME(), 1);
 }
 
-/* the counts of refusals on a machine of four cores: the header's, then the cores', whose places the header names */
+/* a step, its answer and the word that counts it, on a machine of four cores; mips86.h names these words */
 static void test_refusals(void) {
     static const struct {
         uint32_t words[6];
@@ -166,6 +166,27 @@ static void test_refusals(void) {
         if (expected[rows[i].at] != 0xFFFFFFFF) expected[rows[i].at]++;
         CHECK(SAME(), 1);
     }
+}
+
+/* INIT and the start of core 1 keep every count; a count may be any number, and the words after it are zero */
+static void test_counts_kept(void) {
+    static const uint32_t init[6] = {7, 1, 0, 0, 0, 0}, start[6] = {8, 1, 0, 0, 0, 0};
+    uint32_t *block = tables + BLOCK + 256;
+    make(2, 1);
+    tables[MIPS86_REFUSALS] = 5;
+    tables[MIPS86_CORE_REFUSALS(0)] = 6;
+    tables[MIPS86_CORE_REFUSALS(1)] = 0xFFFFFFFF;
+    block[INITRR] = block[SIPIRR] = 1;
+    CHECK(step(init, 6), MIPS86_DONE);
+    CHECK(step(start, 6), MIPS86_DONE);
+    CHECK(block[RUNNING], 1);
+    CHECK(tables[MIPS86_REFUSALS], 5);
+    CHECK(tables[MIPS86_CORE_REFUSALS(0)], 6);
+    CHECK(tables[MIPS86_CORE_REFUSALS(1)], 0xFFFFFFFF);
+    block[116] = 1;
+    remember();
+    CHECK(step(init, 6), 104);
+    CHECK(SAME(), 1);
 }
 
 static void test_unsound(void) {
@@ -915,6 +936,7 @@ int main(void) {
     test_example();
     test_lengths();
     test_refusals();
+    test_counts_kept();
     test_unsound();
     test_core();
     test_run();

@@ -210,15 +210,27 @@ pub fn step(checked: bool, t: &mut [u32], m: &mut [u8], s: &[u32]) -> Answer {
     if checked && sound(t, m).is_err() {
         return Answer::Refused(NotSound);
     }
+    match s.try_into() {
+        Ok(six) => step_six(t, m, six),
+        Err(_) => refuse(t, s, Length),
+    }
+}
+
+/// A step of six words on sound tables.
+fn step_six(t: &mut [u32], m: &mut [u8], s: &[u32; 6]) -> Answer {
     match transition(t, m, s) {
         Ok(None) => Answer::Done,
         Ok(Some(level)) => Answer::Interrupt(level),
-        Err(why) => {
-            let count = &mut t[refusal_count(t[CORES], s)];
-            *count = count.saturating_add(1);
-            Answer::Refused(why)
-        }
+        Err(why) => refuse(t, s, why),
     }
+}
+
+/// Counts the refusal and answers it.
+#[cold]
+fn refuse(t: &mut [u32], s: &[u32], why: Why) -> Answer {
+    let count = &mut t[refusal_count(t[CORES], s)];
+    *count = count.saturating_add(1);
+    Answer::Refused(why)
 }
 
 /// The table word that counts this call where it is refused 5 to 10: word 115
@@ -230,9 +242,10 @@ pub fn refusal_count(cores: u32, s: &[u32]) -> usize {
     }
 }
 
-/// Form (refusal 5), then the transition. Ok(Some(level)) is an interrupt.
-fn transition(t: &mut [u32], m: &mut [u8], s: &[u32]) -> Result<Option<u32>, Why> {
-    let [kind, who, a, b, c, d] = *s else { return Err(Length) };
+/// Form (refusal 5) but for the length, then the transition. Ok(Some(level))
+/// is an interrupt.
+fn transition(t: &mut [u32], m: &mut [u8], s: &[u32; 6]) -> Result<Option<u32>, Why> {
+    let [kind, who, a, b, c, d] = *s;
     if kind > 11 {
         return Err(Kind);
     }
@@ -849,7 +862,7 @@ pub fn effective_address(t: &[u32], b: usize, op: Op, i: u32) -> u32 {
     }
 }
 
-fn core_step(t: &mut [u32], m: &mut [u8], k: usize, s: &[u32]) -> Result<Option<u32>, Why> {
+fn core_step(t: &mut [u32], m: &mut [u8], k: usize, s: &[u32; 6]) -> Result<Option<u32>, Why> {
     let b = block(k);
     let pc = t[b + PC];
     let user = user_mode(t, b);
@@ -1133,7 +1146,8 @@ pub fn run(checked: bool, t: &mut [u32], m: &mut [u8], schedule: &[u32], limit: 
         if accepted == limit {
             return Ok(Run { accepted, stop: Stop::Limit });
         }
-        if let Answer::Refused(why) = step(false, t, m, s) {
+        let s = [s[0], s[1], s[2], s[3], s[4], s[5]];
+        if let Answer::Refused(why) = step_six(t, m, &s) {
             return Ok(Run { accepted, stop: Stop::Refused(why) });
         }
         accepted += 1;

@@ -153,8 +153,8 @@ pub fn make(tables: &mut [u32], memory: &[u8], cores: u32) -> Result<(), u32> {
     }
 }
 
-/// Takes one step of six words. A refusal but 4 is counted: in the word [`core_refusals`] of the core that a step of
-/// kind 0 to 8 names, and in the word [`REFUSALS`] where that core is not there and for all other calls.
+/// Takes one step of six words. Every refusal but 4 is counted: in the word [`core_refusals`] of the core that a step
+/// of kind 0 to 8 names, and in the word [`REFUSALS`] where that core is not there and for all other calls.
 pub fn step(tables: &mut [u32], memory: &mut [u8], step: &[u32]) -> Answer {
     // SAFETY: as in `make`.
     let n = unsafe {
@@ -168,7 +168,7 @@ pub fn step(tables: &mut [u32], memory: &mut [u8], step: &[u32]) -> Answer {
 }
 
 /// Takes the steps of a schedule, six words each: to its end, until `limit` steps are accepted, or up to and with the
-/// first that is refused.
+/// first that is refused, which is counted as a single step is.
 pub fn run(tables: &mut [u32], memory: &mut [u8], schedule: &[u32], limit: u32) -> Ran {
     let mut accepted = 0;
     // SAFETY: as in `make`; `accepted` is a local.

@@ -91,7 +91,7 @@ impl Machine {
     }
 
     /// How many steps of a core were refused: those of kinds 0 to 8 that name it, whatever the refusal but 4, single or
-    /// in a run. It stays at its largest, and a reset of the core keeps it. None where the tables have no such core.
+    /// in a run. It stays at `u32::MAX`, and a reset of the core keeps it. None where the tables have no such core.
     ///
     /// ```
     /// use mips86::Machine;
@@ -100,8 +100,8 @@ impl Machine {
     /// m.step([4, 1, 0, 0, 0, 0]); // no store of core 1 is pending
     /// m.step([4, 1, 9, 0, 0, 0]); // a store buffer step has no word 2
     /// m.step([4, 2, 0, 0, 0, 0]); // there is no core 2
-    /// assert_eq!((m.core_refusals(0), m.core_refusals(1), m.core_refusals(2)), (Some(0), Some(2), None));
-    /// assert_eq!(m.refusals(), 1);
+    /// assert_eq!((m.core_refusals(0), m.core_refusals(1), m.refusals()), (Some(0), Some(2), 1));
+    /// assert_eq!(m.core_refusals(2), None);
     /// # Ok::<(), u32>(())
     /// ```
     pub fn core_refusals(&self, core: usize) -> Option<u32> {
@@ -112,7 +112,7 @@ impl Machine {
     }
 
     /// How many steps were refused that no core counts: those of a core that is not there and of kinds 9 and above, and
-    /// calls of more or fewer than six words. It stays at its largest. 0 where the tables have no such word.
+    /// calls of more or fewer than six words. It stays at `u32::MAX`. 0 where the tables have no such word.
     pub fn refusals(&self) -> u32 {
         self.tables.get(REFUSALS).copied().unwrap_or(0)
     }

@@ -2,8 +2,8 @@
 
 mod machine;
 
-use machine::{Machine, BLOCK, CORES, FREE, LINES, OWN_REFUSALS, PAGES, PC, PORTS, RECORDS, REFUSALS, RUNNING, SPR};
-use mips86::{make, run, step, table_words, Answer, Ran, Stop, PAGE_BYTES};
+use machine::{Machine, BLOCK, CORES, CORE_REFUSALS, FREE, LINES, PAGES, PC, PORTS, RECORDS, REFUSALS, RUNNING, SPR};
+use mips86::{core_refusals, make, run, step, table_words, Answer, Ran, Stop, PAGE_BYTES};
 
 const LINE_3: [u32; 6] = [11, 3, 1, 0, 0, 0];
 const DRAIN: [u32; 6] = [4, 0, 0, 0, 0, 0];
@@ -63,7 +63,7 @@ fn example_of_the_run_program() {
     expected.tables[LINES] = 8;
     assert_eq!(m, expected);
     assert_eq!(m.step(&DRAIN), Answer::Refused(6));
-    expected.tables[BLOCK + OWN_REFUSALS] = 1;
+    expected.tables[BLOCK + CORE_REFUSALS] = 1;
     assert_eq!(m, expected);
     assert_eq!(m.step(&NOTHING), Answer::Refused(5));
     expected.tables[REFUSALS] = 1;
@@ -74,8 +74,8 @@ fn example_of_the_run_program() {
 fn six_words_are_a_step() {
     let mut m = Machine::new(1, 1);
     let mut expected = m.clone();
-    assert_eq!(m.step(&LINE_3[..5]), Answer::Refused(5));
-    assert_eq!(m.step(&[11, 3, 1, 0, 0, 0, 0]), Answer::Refused(5));
+    assert_eq!(m.step(&DRAIN[..5]), Answer::Refused(5));
+    assert_eq!(m.step(&[4, 0, 0, 0, 0, 0, 0]), Answer::Refused(5));
     assert_eq!(m.step(&[]), Answer::Refused(5));
     expected.tables[REFUSALS] = 3;
     assert_eq!(m, expected);
@@ -83,6 +83,21 @@ fn six_words_are_a_step() {
     expected.tables[REFUSALS] = u32::MAX;
     assert_eq!(m.step(&LINE_3[..5]), Answer::Refused(5));
     assert_eq!(m, expected);
+}
+
+/// The counts as the machine that owns its tables reads them. One that has other tables, or none, has no such word.
+#[test]
+fn counts_of_refusals() {
+    let mut m = mips86::Machine::make(2, 1).expect("a machine");
+    for (step, times) in [([4, 0, 0, 0, 0, 0], 2), ([4, 1, 0, 0, 0, 1], 3), ([4, 2, 0, 0, 0, 0], 4)] {
+        (0..times).for_each(|_| assert!(matches!(m.step(step), Answer::Refused(_))));
+    }
+    assert_eq!((m.core_refusals(0), m.core_refusals(1), m.refusals()), (Some(2), Some(3), 4));
+    assert_eq!([2, 3, 4, usize::MAX].map(|core| m.core_refusals(core)), [None; 4]);
+    assert_eq!((core_refusals(0), core_refusals(1)), (BLOCK + CORE_REFUSALS, BLOCK + 256 + CORE_REFUSALS));
+    assert_eq!(mips86::REFUSALS, REFUSALS);
+    m.tables.clear();
+    assert_eq!((m.core_refusals(0), m.refusals()), (None, 0));
 }
 
 #[test]
@@ -116,7 +131,7 @@ fn core_steps_and_interrupts() {
     m.tables[BLOCK + PC] = 6;
     assert_eq!(m.step(&CORE_0), Answer::Interrupt(3));
     assert_eq!(m.tables[BLOCK + SPR + 3], 6);
-    assert_eq!((m.tables[REFUSALS], m.tables[BLOCK + OWN_REFUSALS]), (0, 0));
+    assert_eq!((m.tables[REFUSALS], m.tables[BLOCK + CORE_REFUSALS]), (0, 0));
 }
 
 #[test]
@@ -140,6 +155,6 @@ fn runs() {
     expected.tables[LINES] = 1 << 3 | 1 << 5;
     assert_eq!(m, expected);
     assert_eq!(m.run(&schedule, u32::MAX), ran(2, Stop::Refused(6)));
-    expected.tables[BLOCK + OWN_REFUSALS] = 1;
+    expected.tables[BLOCK + CORE_REFUSALS] = 1;
     assert_eq!(m, expected);
 }

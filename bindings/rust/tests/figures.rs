@@ -1,13 +1,14 @@
 //! The figures at the edges: those that 01 does not star and its example of the run program, the edges of step and of
-//! run, and those of 02 on overflow (request 2) and on translate (request 1). The machines, the steps and questions and
-//! the numbers that must come out stand here, written by hand from the papers, and all are run.
+//! run, and those of 02 on whose refusals (request 5), on overflow (request 2) and on translate (request 1). The
+//! machines, the steps and questions and the numbers that must come out stand here, written by hand from the papers,
+//! and all are run.
 //!
 //! Refusal 10 has no figure, since it cannot occur on sound tables: each core has 31 records, at most 8 of them stores
 //! and 23 walks, so one is free wherever 8 and 9 do not apply.
 
 mod machine;
 
-use machine::{Machine, BLOCK, ECA, INITRR, LINES, MODE, OWN_REFUSALS, PTO, REFUSALS, REST, SR};
+use machine::{Machine, BLOCK, CORE_REFUSALS, ECA, INITRR, LINES, MODE, PC, PTO, REFUSALS, REST, SR};
 use mips86::Answer::{Done, Interrupt, Refused};
 use mips86::{translate_into, Ran, Stop};
 
@@ -51,6 +52,7 @@ fn eight_stores() {
     assert_eq!(machine.step(&core_step(8)), Refused(8));
     assert_eq!(machine.step(&STORE_BUFFER), Done);
     assert_eq!(machine.step(&core_step(0)), Done);
+    assert_eq!(counts(&machine), [0, 1]);
 }
 
 /// 01: with 23 walks held a new one is refused 9, and one already held is not. Walks are made in user mode.
@@ -64,6 +66,7 @@ fn twenty_three_walks() {
     assert_eq!(machine.step(&tlb_create(23)), Refused(9));
     assert_eq!(machine.step(&tlb_create(5)), Done);
     assert_eq!(machine.step(&tlb_create(23)), Refused(9));
+    assert_eq!(counts(&machine), [0, 2]);
 }
 
 /// 01, the run program's example: a line rises, no store is pending, there is no kind 15. Both refusals are counted,
@@ -81,25 +84,25 @@ fn example_of_the_run_program() {
 #[test]
 fn five_words_and_seven() {
     let mut machine = fresh();
-    assert_eq!(machine.step(&[11, 3, 1, 0, 0]), Refused(5));
+    assert_eq!(machine.step(&STORE_BUFFER[..5]), Refused(5));
     assert_eq!(machine.step(&[11, 3, 1, 0, 0, 0, 0]), Refused(5));
-    assert_eq!(machine.tables[REFUSALS], 2);
+    assert_eq!(counts(&machine), [2, 0]);
 }
 
 // ---- whose refusals
 
 /// The count in the header, then those of the cores.
 fn counts(machine: &Machine) -> Vec<u32> {
-    let own = (0..machine.cores()).map(|core| machine.block(core)[OWN_REFUSALS]);
+    let own = (0..machine.cores()).map(|core| machine.block(core)[CORE_REFUSALS]);
     std::iter::once(machine.tables[REFUSALS]).chain(own).collect()
 }
 
-/// 02, request 5: a refused step of kinds 0 to 8 counts by its core, whatever the refusal; the rest in the header. There
-/// are two cores; core 0 runs in system mode, and nothing is pending.
+/// 02, request 5: a refused step of kinds 0 to 8 counts by its core, whatever the refusal; the rest in the header.
+/// There are two cores and one page; core 0 runs in system mode, and nothing is pending.
 #[test]
 fn whose_refusals() {
     #[rustfmt::skip]
-    let rows: [(&[u32], u32, [u32; 3]); 34] = [
+    let rows: [(&[u32], u32, [u32; 3]); 35] = [
         // step, refusal, header, core 0, core 1
         (&[0, 1, 0, 0, 0, 0],           6, [0, 0, 1]),
         (&[1, 0, 0, 0, 0, 0],           6, [0, 1, 0]),
@@ -111,6 +114,8 @@ fn whose_refusals() {
         (&[6, 0, 0, 0, 0, 0],           6, [0, 1, 0]),
         (&[7, 1, 0, 0, 0, 0],           6, [0, 0, 1]),
         (&[8, 1, 0, 0, 0, 0],           6, [0, 0, 1]),
+        // the pc of core 0 is beyond memory
+        (&[0, 0, 0, 0, 0, 0],           7, [0, 1, 0]),
         // not a step: va, rights, stray words
         (&[1, 1, 0x10_0000, 0, 0, 0],   5, [0, 0, 1]),
         (&[1, 0, 0, 1, 0, 0],           5, [0, 1, 0]),
@@ -142,10 +147,11 @@ fn whose_refusals() {
     ];
     for (step, refusal, expected) in rows {
         let mut machine = Machine::new(2, 1);
+        machine.block_mut(0)[PC] = 0x1000;
         let before = machine.clone();
         assert_eq!((machine.step(step), counts(&machine)), (Refused(refusal), expected.to_vec()), "{step:?}");
         machine.tables[REFUSALS] = 0;
-        (0..2).for_each(|core| machine.block_mut(core)[OWN_REFUSALS] = 0);
+        (0..2).for_each(|core| machine.block_mut(core)[CORE_REFUSALS] = 0);
         assert_eq!(machine, before, "{step:?}");
     }
 }
@@ -155,7 +161,7 @@ fn whose_refusals() {
 fn the_largest_counts() {
     let mut machine = fresh();
     machine.tables[REFUSALS] = 4_294_967_294;
-    machine.tables[BLOCK + OWN_REFUSALS] = 4_294_967_293;
+    machine.tables[BLOCK + CORE_REFUSALS] = 4_294_967_293;
     for expected in [[4_294_967_295, 4_294_967_294], [4_294_967_295, 4_294_967_295], [4_294_967_295, 4_294_967_295]] {
         assert_eq!((machine.step(&NO_KIND), machine.step(&STORE_BUFFER)), (Refused(5), Refused(6)));
         assert_eq!(counts(&machine), expected);
@@ -168,14 +174,14 @@ fn the_largest_counts() {
 fn reset_keeps_the_count() {
     let mut machine = Machine::new(2, 1);
     machine.tables[REFUSALS] = 5;
-    machine.block_mut(0)[OWN_REFUSALS] = 6;
-    machine.block_mut(1)[OWN_REFUSALS] = 4_294_967_295;
+    machine.block_mut(0)[CORE_REFUSALS] = 6;
+    machine.block_mut(1)[CORE_REFUSALS] = 4_294_967_295;
     machine.block_mut(1)[INITRR] = 1;
     assert_eq!(machine.step(&[7, 1, 0, 0, 0, 0]), Done);
     machine.block_mut(1)[INITRR - 2] = 1; // sipirr
     assert_eq!(machine.step(&[8, 1, 0, 0, 0, 0]), Done);
     assert_eq!(counts(&machine), [5, 6, 4_294_967_295]);
-    for word in OWN_REFUSALS + 1..128 {
+    for word in CORE_REFUSALS + 1..128 {
         let mut machine = machine.clone();
         machine.block_mut(1)[word] = 1;
         let before = machine.clone();

@@ -5,8 +5,8 @@
 mod machine;
 
 use machine::{
-    entry, walk, Machine, Walk, ACCESSED, ALL, ASID, BLOCK, CORES, EXECUTE, LINES, MODE, PAGES, PC, PRESENT, RUNNING,
-    STORES, USER, WRITE,
+    entry, walk, Machine, Walk, ACCESSED, ALL, ASID, BLOCK, CORES, CORE_REFUSALS, EXECUTE, LINES, MODE, PAGES, PC,
+    PRESENT, RUNNING, STORES, USER, WRITE,
 };
 use mips86::{Answer, PAGE_BYTES, TABLE, WRITABLE};
 
@@ -181,7 +181,9 @@ fn group_of(cores: usize, pages: usize, seed: u64) -> Machine {
         random.words(&mut block[1..32]);
         random.words(&mut block[64..67]);
         random.words(&mut block[104..112]);
+        random.words(&mut block[CORE_REFUSALS..CORE_REFUSALS + 1]);
     }
+    m.block_mut(0)[CORE_REFUSALS] = u32::MAX - 1;
     let mut own = Random(7);
     for page in [11, 12, 14, 16] {
         own.page(&mut m, page);
@@ -347,6 +349,8 @@ impl Within {
         assert_eq!(self.machine.block(core)[MODE] & 1, 1, "core {core} is in user mode");
         let own = GROUP >> core & 1 == 1;
         let side = if own { 0 } else { 1 };
+        let count = |k| self.machine.block(k)[CORE_REFUSALS];
+        let before: Vec<u32> = (0..self.machine.cores()).map(count).collect();
         let answer = self.machine.step(&step);
         match answer {
             Answer::Done => self.done[side][step[0] as usize] += 1,
@@ -355,6 +359,11 @@ impl Within {
                 self.going.retain(|&k| k != core);
             }
             Answer::Refused(why) => self.refused[side][why as usize] += 1,
+        }
+        let rises = matches!(answer, Answer::Refused(_));
+        for k in 0..self.machine.cores() {
+            let after = before[k].saturating_add((rises && k == core).into());
+            assert_eq!(self.machine.block(k)[CORE_REFUSALS], after, "refusals of core {k}");
         }
         self.frame();
         let m = &self.machine;

@@ -27,7 +27,7 @@ pub record Claims : Type 0 where
   -- run at the start, each up to its first interrupt, in which the group takes the same steps: the group gets the same answers and sees the same state after
   -- each of its steps, whatever the others hold and do; and in each list bytes that neither side can write stay, and table bytes but for accessed bits.
   pub demand3 : Demand3
-  -- A core's count of refusals is in its block, so demand 3 compares it too. A core whose word counts a refusal is in
-  -- the group exactly where the refused step is the group's, and a refused step of a core outside the group leaves every
-  -- block of the group.
+  -- What a group sees includes its cores' counts of refusals. A core whose word counts a refusal is in the group
+  -- exactly where the refused step is the group's, and a refused step of a core outside the group leaves every block of
+  -- the group.
   pub refusals : Refusals

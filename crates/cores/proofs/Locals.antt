@@ -17,10 +17,10 @@ use Rattle.word.proofs.Bytes.{Bytes, put-length, put-bytes}
 use Rattle.word.proofs.Tests.{true-false}
 use Rattle.word.proofs.Words.{Words}
 use Rattle.word.proofs.Truth.{and-left, and-right}
-use Rattle.layout.specs.Layout.{ioregsel, iowin, redirect, ownRefusals}
+use Rattle.layout.specs.Layout.{ioregsel, iowin, redirect, coreRefusals}
 use Rattle.layout.specs.Blocks.{block}
 use Rattle.layout.proofs.Blocks.{with-long, with-block, with-other, with-outside, set-block}
-use Rattle.tables.specs.Views.{coresOf, ownRefusalsOf}
+use Rattle.tables.specs.Views.{coresOf, coreRefusalsOf}
 use Rattle.tables.specs.Sound.{sound}
 use Rattle.tables.proofs.Lift.{header, core-long, core-sound, bytes-divide, with-sound, set-header-sound}
 use Rattle.store_buffer.specs.System.{sized, aligned}
@@ -164,8 +164,8 @@ module _ (t m : List ℕ) (k : ℕ) (p : Plan) (e : sound t (length m) ≡ true)
   plan-long = plan-shows (length m) p (block t k) (core-long t (length m) e k h) (core-sound t (length m) e k h) (D .is-ready) (D .is-sound) .long
 
   -- the refusal count stays
-  pub plan-count : ownRefusalsOf (blockAfter p (block t k)) ≡ ownRefusalsOf (block t k)
-  plan-count = plan-shows (length m) p (block t k) (core-long t (length m) e k h) (core-sound t (length m) e k h) (D .is-ready) (D .is-sound) .still ownRefusals (inr refl)
+  pub plan-count : coreRefusalsOf (blockAfter p (block t k)) ≡ coreRefusalsOf (block t k)
+  plan-count = plan-shows (length m) p (block t k) (core-long t (length m) e k h) (core-sound t (length m) e k h) (D .is-ready) (D .is-sound) .still coreRefusals (inr refl)
 
   -- sound tables stay sound
   pub plan-sound : sound (tablesByPlan k p t) (length (memoryByPlan p m)) ≡ true

@@ -81,7 +81,7 @@ tlbAfter (Drop f) l = staying (goes f) l
 
 -- the words of a block that no plan writes: whether the core runs, and its refusal count
 abbrev pub Still : ℕ → Type 0
-Still i = (i ≡ at.running) ⊎ (i ≡ at.ownRefusals)
+Still i = (i ≡ at.running) ⊎ (i ≡ at.coreRefusals)
 
 -- a sound block c with these registers, pending stores and walks, and with the words of b that no plan writes
 pub record Shows (n : ℕ) (b c : List ℕ) (r : Registers) (ss : List Store) (ws : List Walk) : Type 0 where

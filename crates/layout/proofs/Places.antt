@@ -5,7 +5,7 @@ use mathlib.Core.Path.{_≡_, refl}
 use Prim.Native.Nat.{ℕ, _+_, _*_}
 use Rattle.layout.specs.Layout as at
 
--- `b` is `n` words behind `a`
+-- b is n words after a
 abbrev After : ℕ → ℕ → ℕ → Type 0
 After a n b = a + n ≡ b
 
@@ -21,6 +21,6 @@ register-places = (refl, refl, refl, refl, refl, refl, refl, refl, refl)
 
 pub apic-places :
     After at.blockGap 1 at.ports × After at.ports 32 at.eoipending × After at.eoipending 8 at.sipirr × After at.sipirr 1 at.sipivect
-    × After at.sipivect 1 at.initrr × After at.initrr 1 at.ownRefusals × After at.ownRefusals 1 at.blockRest
+    × After at.sipivect 1 at.initrr × After at.initrr 1 at.coreRefusals × After at.coreRefusals 1 at.blockRest
     × After at.blockRest at.blockRestWords at.records × After at.records (32 * at.recordWords) at.blockWords
 apic-places = (refl, refl, refl, refl, refl, refl, refl, refl, refl)

@@ -102,8 +102,8 @@ abbrev pub initrr : ℕ
 initrr = 114
 
 -- the refused steps of kinds 0 to 8 whose core is this one (02, 'Whose refusals?')
-abbrev pub ownRefusals : ℕ
-ownRefusals = 115
+abbrev pub coreRefusals : ℕ
+coreRefusals = 115
 
 -- the words up to the records are zero
 abbrev pub blockRest : ℕ

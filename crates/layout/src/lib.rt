@@ -2,8 +2,8 @@
 ghost use mathlib.Core.Path.{_≡_};
 ghost use Prim.Native.Nat.{_+_, _≤_};
 ghost use lib.ListN.{length};
-ghost use Rattle.layout.specs.Layout as x;
-ghost use Rattle.layout.specs.Blocks as y;
+ghost use Rattle.layout.specs.Layout.{blockAt, blockWords};
+ghost use Rattle.layout.specs.Blocks as part;
 
 pub const HEADER_WORDS: usize = 32;
 
@@ -57,7 +57,7 @@ pub const SIPIVECT: usize = 113;
 
 pub const INITRR: usize = 114;
 
-pub const OWN_REFUSALS: usize = 115;
+pub const CORE_REFUSALS: usize = 115;
 
 pub const BLOCK_REST: usize = 116;
 
@@ -100,15 +100,15 @@ pub const MOST_CORES: u32 = 4;
 
 // Where the block of core k starts.
 pub fn block_at(k: u32) -> usize
-    ensures { λ r. ⌜ r ≡ x.blockAt k ⌝ }
+    ensures { λ r. ⌜ r ≡ blockAt k ⌝ }
 {
     HEADER_WORDS + BLOCK_WORDS * (k as usize)
 }
 
 // The block of core k.
 pub fn block(t: &[u32], k: u32) -> &[u32]
-    requires { ⌜ x.blockAt k + x.blockWords ≤ length (now t) ⌝ }
-    ensures { λ r. ⌜ (now r ≡ y.block (now (t .entry)) k) × (length (now r) ≡ x.blockWords) ⌝ }
+    requires { ⌜ blockAt k + blockWords ≤ length (now t) ⌝ }
+    ensures { λ r. ⌜ (now r ≡ part.block (now (t .entry)) k) × (length (now r) ≡ blockWords) ⌝ }
 {
     let a = block_at(k);
     let e = a + BLOCK_WORDS;

@@ -19,7 +19,7 @@ use Rattle.layout.specs.Blocks.{block}
 use Rattle.layout.proofs.Blocks.{with-long, with-block, with-other, with-header, set-block}
 use Rattle.records.proofs.Counts.{either}
 use Rattle.records.proofs.Frame.{Alike, same-sound}
-use Rattle.tables.specs.Views.{coresOf, linesOf, refusalsOf, ownRefusalsOf}
+use Rattle.tables.specs.Views.{coresOf, linesOf, refusalsOf, coreRefusalsOf}
 use Rattle.tables.specs.Sound.{soundBlock, sound}
 use Rattle.tables.proofs.Parts.{words-of, records-of, of-parts}
 use Rattle.tables.proofs.Places.{words-facts, facts-words}
@@ -61,7 +61,7 @@ pub record Keeps (n : ℕ) (t u : List ℕ) : Type 0 where
   pub long : length u ≡ length t
   pub cores : coresOf u ≡ coresOf t
   pub count : refusalsOf u ≡ refusalsOf t
-  pub own-counts : (k : ℕ) → k < coresOf t → ownRefusalsOf (block u k) ≡ ownRefusalsOf (block t k)
+  pub core-counts : (k : ℕ) → k < coresOf t → coreRefusalsOf (block u k) ≡ coreRefusalsOf (block t k)
   pub is-sound : sound u n ≡ true
 
 keeps-then : {n : ℕ} {t u v : List ℕ} → Keeps n t u → Keeps n u v → Keeps n t v
@@ -70,7 +70,7 @@ keeps-then p q =
       long = q .long ∙ p .long;
       cores = q .cores ∙ p .cores;
       count = q .count ∙ p .count;
-      own-counts = λ k h. q .own-counts k (omega (arith, p .cores)) ∙ p .own-counts k h;
+      core-counts = λ k h. q .core-counts k (omega (arith, p .cores)) ∙ p .core-counts k h;
       is-sound = q .is-sound;
     }
 
@@ -99,7 +99,7 @@ kept-sound P zero-in heads-in rest-in n b c K e =
 -- a function that keeps a block's length and refusal count and leaves it sound, beside a memory of n bytes
 record BlockKeeps (n : ℕ) (f : List ℕ → List ℕ) : Type 0 where
   pub as-long : (b : List ℕ) → length (f b) ≡ length b
-  pub as-count : (b : List ℕ) → ownRefusalsOf (f b) ≡ ownRefusalsOf b
+  pub as-count : (b : List ℕ) → coreRefusalsOf (f b) ≡ coreRefusalsOf b
   pub as-sound : (b : List ℕ) → soundBlock n b ≡ true → soundBlock n (f b) ≡ true
 
 -- a step of the local APIC's own words
@@ -107,7 +107,7 @@ passive : (n : ℕ) (f : List ℕ → List ℕ) → ((b : List ℕ) → Kept Pas
 passive n f K =
     record {
       as-long = λ b. K b .long;
-      as-count = λ b. K b .same at.ownRefusals (inr (omega arith));
+      as-count = λ b. K b .same at.coreRefusals (inr (omega arith));
       as-sound = λ b. kept-sound Passive (inl (omega arith)) (λ i p q. inl (omega arith)) (λ i p. inr p) n b (f b) (K b);
     }
 
@@ -116,14 +116,14 @@ reset : (n : ℕ) (f : List ℕ → List ℕ) → ((b : List ℕ) → Kept Reset
 reset n f K =
     record {
       as-long = λ b. K b .long;
-      as-count = λ b. K b .same at.ownRefusals (inr (inr (omega arith)));
+      as-count = λ b. K b .same at.coreRefusals (inr (inr (omega arith)));
       as-sound = λ b. kept-sound Reset (inl (omega arith)) (λ i p q. inr (inl (omega arith, omega arith))) (λ i p. inr (inr p)) n b (f b) (K b);
     }
 
 module _ (n : ℕ) where
   -- the tables themselves
   keeps-all : (t : List ℕ) → sound t n ≡ true → Keeps n t t
-  keeps-all t e = record { long = refl; cores = refl; count = refl; own-counts = λ k h. refl; is-sound = e }
+  keeps-all t e = record { long = refl; cores = refl; count = refl; core-counts = λ k h. refl; is-sound = e }
 
   -- at the block of one core
   on-block : (f : List ℕ → List ℕ) → BlockKeeps n f → (t : List ℕ) → sound t n ≡ true → (k : ℕ) → k < coresOf t → Keeps n t (onBlock f k t)
@@ -134,9 +134,9 @@ module _ (n : ℕ) where
         long = with-long t k (f (block t k)) fits long;
         cores = with-header t k (f (block t k)) fits long at.cores (omega arith);
         count = with-header t k (f (block t k)) fits long at.refusals (omega arith);
-        own-counts = λ j l. either (ℕ-discrete j k)
-            (λ q. rw q (ap ownRefusalsOf (with-block t k (f (block t k)) fits long) ∙ B .as-count (block t k)))
-            (λ d. ap ownRefusalsOf (with-other t k (f (block t k)) fits long j d (core-fits t n e j l)));
+        core-counts = λ j l. either (ℕ-discrete j k)
+            (λ q. rw q (ap coreRefusalsOf (with-block t k (f (block t k)) fits long) ∙ B .as-count (block t k)))
+            (λ d. ap coreRefusalsOf (with-other t k (f (block t k)) fits long j d (core-fits t n e j l)));
         is-sound = with-sound t n e k (f (block t k)) h long (B .as-sound (block t k) (core-sound t n e k h));
       }
 
@@ -155,7 +155,7 @@ module _ (n : ℕ) where
         long = length-set t (at.redirect + i) v;
         cores = getD-set-other t (at.redirect + i) at.cores v 0 (omega arith);
         count = getD-set-other t (at.redirect + i) at.refusals v 0 (omega arith);
-        own-counts = λ k l. ap ownRefusalsOf (set-block t (at.redirect + i) v k (omega arith));
+        core-counts = λ k l. ap coreRefusalsOf (set-block t (at.redirect + i) v k (omega arith));
         is-sound = set-header-sound t n e (at.redirect + i) v (inr (omega arith, omega arith));
       }
 
@@ -212,7 +212,7 @@ module _ (t : List ℕ) (n : ℕ) (e : sound t n ≡ true) where
         long = length-set t at.lines w;
         cores = getD-set-other t at.lines at.cores w 0 (omega arith);
         count = getD-set-other t at.lines at.refusals w 0 (omega arith);
-        own-counts = λ k q. ap ownRefusalsOf (set-block t at.lines w k (omega arith));
+        core-counts = λ k q. ap coreRefusalsOf (set-block t at.lines w k (omega arith));
         is-sound = set-lines-sound t n e w (put-below 24 (linesOf t) l v (header t n e .few-lines) h hv);
       }
 
@@ -236,7 +236,7 @@ module _ (t : List ℕ) (n : ℕ) (e : sound t n ≡ true) where
   counted-keeps s =
       by-count (λ (i : ℕ). Stays n t (oneMore i t)) (coresOf t) s
       (more-keeps at.refusals (omega arith) (λ v. set-header-sound t n e at.refusals v (inl refl)))
-      (λ h. more-keeps (at.blockAt (word s 1) + at.ownRefusals) (omega arith) (λ v. set-count-sound t n e (word s 1) v h))
+      (λ h. more-keeps (at.blockAt (word s 1) + at.coreRefusals) (omega arith) (λ v. set-count-sound t n e (word s 1) v h))
 
 -- ---- memory keeps its length
 
@@ -263,9 +263,9 @@ module _ (t m : List ℕ) (e : sound t (length m) ≡ true) where
         long = tables-long k p t fits long;
         cores = tables-local k p t fits long at.cores (inl (omega arith)) (inl (omega arith));
         count = tables-local k p t fits long at.refusals (inl (omega arith)) (inl (omega arith));
-        own-counts = λ j q. either (ℕ-discrete j k)
-            (λ r. rw r (ap ownRefusalsOf (tables-own k p t fits long) ∙ plan-count t m k p e l D))
-            (λ d. ap ownRefusalsOf (tables-other k p t fits long j d (core-fits t (length m) e j q)));
+        core-counts = λ j q. either (ℕ-discrete j k)
+            (λ r. rw r (ap coreRefusalsOf (tables-own k p t fits long) ∙ plan-count t m k p e l D))
+            (λ d. ap coreRefusalsOf (tables-other k p t fits long j d (core-fits t (length m) e j q)));
         is-sound = subst (λ (n : ℕ). sound (cores.tablesByPlan k p t) n ≡ true) (written-long (p .write) m) (plan-sound t m k p e l D);
       }
 

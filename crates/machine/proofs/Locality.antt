@@ -1,7 +1,8 @@
--- What a step of a core (kinds 0 to 4) does on sound tables, as one law, `step-law`. It is a plan, and the plan (`planOf`) depends on its core's block,
--- on memory and on the words IOREGSEL and IOWIN, and on nothing else of the tables. Where it is accepted it changes that block as the plan says, and
--- else at most the I/O APIC's words of the header and one aligned run of memory bytes; where it is refused, the refusal count alone. (A store to
--- IOREGSEL reads the redirect entry that it selects.)
+-- What a step of a core (kinds 0 to 4) does on sound tables, as one law, `step-law`. It is a plan, and the plan
+-- (`planOf`) depends on its core's block, on memory and on the words IOREGSEL and IOWIN, and on nothing else of the
+-- tables. Where it is accepted it changes that block as the plan says, and else at most the I/O APIC's words of the
+-- header and one aligned run of memory bytes; where it is refused, one count of refusals alone, its core's, or the
+-- header's where the words are not six. (A store to IOREGSEL reads the redirect entry that it selects.)
 -- Assumes nothing.
 use mathlib.Core.Path.{_≡_, refl, sym, ap, subst, _∙_}
 use mathlib.Core.Logic.{_⊎_, inl, _≢_, ⊎-elim}
@@ -109,7 +110,7 @@ plain-form s h =
 -- a core's block after its step: as the plan says, and where it is refused with one refusal more, if the words name
 -- the core
 abbrev pub ownAfter : Bool → Plan → Answer → List ℕ → List ℕ
-ownAfter c p r b = if isAccepted r then commit.blockAfter p b else if c then oneMore at.ownRefusals b else b
+ownAfter c p r b = if isAccepted r then commit.blockAfter p b else if c then oneMore at.coreRefusals b else b
 
 -- whether they do, which the number of cores does not change where the core is there
 abbrev pub isCounted : List ℕ → Bool
@@ -137,39 +138,39 @@ header-more t j = go (ltb (getD t at.refusals 0) (2 ^ 32 - 1))
 
 -- one more in the block of core k
 module _ (t : List ℕ) (k : ℕ) (fits : 32 + 256 * k + 256 ≤ length t) where
-  own-more : block (oneMore (at.blockAt k + at.ownRefusals) t) k ≡ oneMore at.ownRefusals (block t k)
+  own-more : block (oneMore (at.blockAt k + at.coreRefusals) t) k ≡ oneMore at.coreRefusals (block t k)
   unfolding oneMore
-  own-more = rw (block-at t k at.ownRefusals (omega arith)) (go (getD t (at.blockAt k + at.ownRefusals) 0) (ltb (getD t (at.blockAt k + at.ownRefusals) 0) (2 ^ 32 - 1)))
+  own-more = rw (block-at t k at.coreRefusals (omega arith)) (go (getD t (at.blockAt k + at.coreRefusals) 0) (ltb (getD t (at.blockAt k + at.coreRefusals) 0) (2 ^ 32 - 1)))
     where
-      go : (v : ℕ) (b : Bool) → block (if b then set t (at.blockAt k + at.ownRefusals) (v + 1) else t) k ≡ (if b then set (block t k) at.ownRefusals (v + 1) else block t k)
-      go v true = set-own-block t k at.ownRefusals (v + 1) fits (omega arith)
+      go : (v : ℕ) (b : Bool) → block (if b then set t (at.blockAt k + at.coreRefusals) (v + 1) else t) k ≡ (if b then set (block t k) at.coreRefusals (v + 1) else block t k)
+      go v true = set-own-block t k at.coreRefusals (v + 1) fits (omega arith)
       go v false = refl
 
-  other-more : (j : ℕ) → j ≢ k → 32 + 256 * j + 256 ≤ length t → block (oneMore (at.blockAt k + at.ownRefusals) t) j ≡ block t j
+  other-more : (j : ℕ) → j ≢ k → 32 + 256 * j + 256 ≤ length t → block (oneMore (at.blockAt k + at.coreRefusals) t) j ≡ block t j
   unfolding oneMore
-  other-more j d q = go (getD t (at.blockAt k + at.ownRefusals) 0) (ltb (getD t (at.blockAt k + at.ownRefusals) 0) (2 ^ 32 - 1))
+  other-more j d q = go (getD t (at.blockAt k + at.coreRefusals) 0) (ltb (getD t (at.blockAt k + at.coreRefusals) 0) (2 ^ 32 - 1))
     where
-      go : (v : ℕ) (b : Bool) → block (if b then set t (at.blockAt k + at.ownRefusals) (v + 1) else t) j ≡ block t j
-      go v true = set-own-other t k at.ownRefusals (v + 1) fits (omega arith) j d q
+      go : (v : ℕ) (b : Bool) → block (if b then set t (at.blockAt k + at.coreRefusals) (v + 1) else t) j ≡ block t j
+      go v true = set-own-other t k at.coreRefusals (v + 1) fits (omega arith) j d q
       go v false = refl
 
 -- the count of a step of core k = word s 1
 module _ (t m : List ℕ) (e : sound t (length m) ≡ true) (s : List ℕ) (h : word s 1 < coresOf t) where
-  counted-is : counted s t ≡ oneMore (if isCounted s then at.blockAt (word s 1) + at.ownRefusals else at.refusals) t
+  counted-is : counted s t ≡ oneMore (if isCounted s then at.blockAt (word s 1) + at.coreRefusals else at.refusals) t
   unfolding counted countAt
-  counted-is = ap (λ (b : Bool). oneMore (if eqb (length s) 6 && (ltb (word s 0) 9 && b) then at.blockAt (word s 1) + at.ownRefusals else at.refusals) t) (lt-ltb (word s 1) (coresOf t) h ∙ sym (lt-ltb (word s 1) (suc (word s 1)) (omega arith)))
+  counted-is = ap (λ (b : Bool). oneMore (if eqb (length s) 6 && (ltb (word s 0) 9 && b) then at.blockAt (word s 1) + at.coreRefusals else at.refusals) t) (lt-ltb (word s 1) (coresOf t) h ∙ sym (lt-ltb (word s 1) (suc (word s 1)) (omega arith)))
 
-  counted-own : block (counted s t) (word s 1) ≡ (if isCounted s then oneMore at.ownRefusals (block t (word s 1)) else block t (word s 1))
+  counted-own : block (counted s t) (word s 1) ≡ (if isCounted s then oneMore at.coreRefusals (block t (word s 1)) else block t (word s 1))
   counted-own = ap (λ (u : List ℕ). block u (word s 1)) counted-is ∙ go (isCounted s)
     where
-      go : (c : Bool) → block (oneMore (if c then at.blockAt (word s 1) + at.ownRefusals else at.refusals) t) (word s 1) ≡ (if c then oneMore at.ownRefusals (block t (word s 1)) else block t (word s 1))
+      go : (c : Bool) → block (oneMore (if c then at.blockAt (word s 1) + at.coreRefusals else at.refusals) t) (word s 1) ≡ (if c then oneMore at.coreRefusals (block t (word s 1)) else block t (word s 1))
       go true = own-more t (word s 1) (core-fits t (length m) e (word s 1) h)
       go false = header-more t (word s 1)
 
   counted-other : (j : ℕ) → j ≢ word s 1 → j < coresOf t → block (counted s t) j ≡ block t j
   counted-other j d q = ap (λ (u : List ℕ). block u j) counted-is ∙ go (isCounted s)
     where
-      go : (c : Bool) → block (oneMore (if c then at.blockAt (word s 1) + at.ownRefusals else at.refusals) t) j ≡ block t j
+      go : (c : Bool) → block (oneMore (if c then at.blockAt (word s 1) + at.coreRefusals else at.refusals) t) j ≡ block t j
       go true = other-more t (word s 1) (core-fits t (length m) e (word s 1) h) j d (core-fits t (length m) e j q)
       go false = header-more t j
 
@@ -222,7 +223,7 @@ module _ (t m : List ℕ) (e : sound t (length m) ≡ true) (s : List ℕ) (h : 
 
       go : (b : Bool) → isAccepted (p .answer) ≡ b
           → Law t m k c p (record { answer = p .answer; tables = if b then commit.tablesByPlan k p t else counted s t; memory = if b then commit.memoryByPlan p m else m })
-      go true q = done (own ∙ ap (λ (b : Bool). if b then commit.blockAfter p (block t k) else if c then oneMore at.ownRefusals (block t k) else block t k) (sym q))
+      go true q = done (own ∙ ap (λ (b : Bool). if b then commit.blockAfter p (block t k) else if c then oneMore at.coreRefusals (block t k) else block t k) (sym q))
       go false q =
           by-refused (λ (a : Answer). p .answer ≡ a → Law t m k c p (record { answer = a; tables = counted s t; memory = m }))
           (λ n e. subst (λ (x : Plan). Law t m k c x (record { answer = answer.Refused n; tables = counted s t; memory = m })) (sym (D .is-still n e)) (refused-law n))

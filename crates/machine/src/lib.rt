@@ -56,7 +56,6 @@ fn by_plan(t: &mut [u32], m: &mut [u8], p: Step) -> Answer
     let r = plan.answer;
     if is_accepted(r) {
         commit::commit(t, m, k, plan);
-        return r;
     }
     r
 }
@@ -74,7 +73,6 @@ fn by_action(t: &mut [u32], m: &mut [u8], p: Step) -> Answer
     let r = action::answer(a);
     if is_accepted(r) {
         action::commit(t, m, a);
-        return r;
     }
     r
 }
@@ -106,9 +104,8 @@ pub fn step(t: &mut [u32], m: &mut [u8], s: &[u32]) -> Answer
         return Answer::Refused(4);
     }
     let r = take(t, m, s);
-    if is_accepted(r) {
-        return r;
+    if !is_accepted(r) {
+        count(t, s);
     }
-    count(t, s);
     r
 }

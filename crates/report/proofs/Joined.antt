@@ -18,7 +18,7 @@ use Rattle.isa.specs.Interrupts.{ovfOf, jisr, il, continues, deltaJisr, deltaRf
 use Rattle.isa.specs.Core.{deltaInstr}
 use Rattle.records.specs.declared.Store.{Store}
 use Rattle.records.specs.declared.Walk.{Walk}
-use Rattle.tables.specs.Views.{coresOf, refusalsOf, ownRefusalsOf}
+use Rattle.tables.specs.Views.{coresOf, refusalsOf, coreRefusalsOf}
 use Rattle.tables.specs.Sound.{sound}
 use Rattle.tables.proofs.Lift.{header, core-long, core-sound}
 use Rattle.tables.proofs.Steps.{block-few-stores}
@@ -254,7 +254,7 @@ module _ (t m s : List ℕ) (e : sound t (length m) ≡ true) (ws : Words t) (bs
         cores = K .cores;
         pages = omega (arith, long, before .bytes, after .bytes);
         count = ap refusalsOf (sym q) ∙ decided-keeps t m e ws bs s .count;
-        own-counts = λ k h. ap (λ (u : List ℕ). ownRefusalsOf (block u k)) (sym q) ∙ decided-keeps t m e ws bs s .own-counts k h;
+        core-counts = λ k h. ap (λ (u : List ℕ). coreRefusalsOf (block u k)) (sym q) ∙ decided-keeps t m e ws bs s .core-counts k h;
       }
 
   accepted : {q : Answer} (o : report.Answer) → Is q (tablesAfter (decided t m s) t) (memoryAfter (decided t m s) m) → Roomy t m x → Has t m x → Leads t m x (decided t m s) o → Accepted t m s o

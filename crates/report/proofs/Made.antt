@@ -18,7 +18,7 @@ use Rattle.isa.specs.declared.registers.Registers.{Registers}
 use Rattle.isa.specs.Core.{sprAt}
 use Rattle.records.specs.Records.{all, stores, walks, among}
 use Rattle.records.proofs.Facts.{all-at}
-use Rattle.tables.specs.Views.{registersOf, runningOf, portByte}
+use Rattle.tables.specs.Views.{registersOf, runningOf, portByte, coreRefusalsOf}
 use Rattle.tables.specs.Make.{chained, madeBlock, madeBlocks, made}
 use Rattle.tables.proofs.Fresh.{block-long}
 use Rattle.tables.proofs.Reset.{made-sound, made-block, made-registers, made-running, made-stores, made-walks}
@@ -106,7 +106,17 @@ module _ (n p : ℕ) (some : 1 ≤ n) (few : n ≤ 4) (m : List ℕ) (M : ℕ �
         dev = λ k h. ap (λ (x : ℕ). eqb x 1) (bit-zero k);
       }
 
+made-count : (i : ℕ) → coreRefusalsOf (madeBlock i) ≡ 0
+unfolding madeBlock chained
+made-count i = refl
+
 pub resets : Resets
 unfolding view made
 resets n p some few pages most =
-    record { is-sound = made-sound n p some few pages most; np = λ m M. refl; reset = after-reset n p some few }
+    record {
+      is-sound = made-sound n p some few pages most;
+      np = λ m M. refl;
+      reset = after-reset n p some few;
+      count = refl;
+      core-counts = λ k h. ap coreRefusalsOf (made-block n p k h) ∙ made-count k;
+    }

@@ -8,7 +8,8 @@
 -- fields of walks, addresses and entries, winit, wext, wextFault, set-d, complete, hit and ptea (tlb); sbhit, sbv,
 -- sbhazard, isPort, apicadr and ioapicadr (store_buffer); least and someUpTo (vector_register); there, localPort,
 -- ioPort, among and same (records);
--- of words: stepOf, the form of a step (steps); the views of words, sound and made (tables); stores and walks (records).
+-- of words: stepOf, the form of a step, and countAt, the word that counts its refusal (steps); the views of words,
+-- sound and made (tables); stores and walks (records).
 -- That they are not empty is shown in claims: made tables are sound, and there are steps that are accepted and steps refused 5 to 9.
 --
 -- The numbers of records, the order of the walks and the free chain are no part of a configuration. Nothing here fixes them but that tables stay sound:
@@ -34,7 +35,7 @@ use Rattle.isa.specs.Core.{sprAt, lop, rop}
 use Rattle.isa.specs.Interrupts.{ovfOf}
 use Rattle.records.specs.declared.Walk.{Walk}
 use Rattle.records.specs.Records.{walks}
-use Rattle.tables.specs.Views.{coresOf, pagesOf, refusalsOf, ownRefusalsOf}
+use Rattle.tables.specs.Views.{coresOf, pagesOf, refusalsOf, coreRefusalsOf}
 use Rattle.tables.specs.Sound.{sound}
 use Rattle.tables.specs.Make.{made}
 use Rattle.steps.specs.declared.Answer.{Answer}
@@ -185,7 +186,7 @@ pub record Kept (t m u n : List ℕ) : Type 0 where
   pub cores : coresOf u ≡ coresOf t
   pub pages : pagesOf u ≡ pagesOf t
   pub count : refusalsOf u ≡ refusalsOf t
-  pub own-counts : (k : ℕ) → k < coresOf t → ownRefusalsOf (block u k) ≡ ownRefusalsOf (block t k)
+  pub core-counts : (k : ℕ) → k < coresOf t → coreRefusalsOf (block u k) ≡ coreRefusalsOf (block t k)
 
 module _ (t m s : List ℕ) where
   abbrev pub a : Step
@@ -252,6 +253,9 @@ pub record Fresh (n p : ℕ) : Type 0 where
   pub is-sound : sound (made n p) (at.pageBytes * p) ≡ true
   pub np : (m : List ℕ) (M : ℕ → ℕ) → view (made n p) m M .np ≡ n
   pub reset : (m : List ℕ) (M : ℕ → ℕ) → Reset (view (made n p) m M)
+  -- no refusal is counted yet
+  pub count : refusalsOf (made n p) ≡ 0
+  pub core-counts : (k : ℕ) → k < n → coreRefusalsOf (block (made n p) k) ≡ 0
 
 abbrev pub Resets : Type 0
 Resets = (n p : ℕ) → 1 ≤ n → n ≤ at.mostCores → 1 ≤ p → p ≤ at.mostPages → Fresh n p

@@ -67,24 +67,24 @@ written-same ps m n (LocalPort i v) g a h = g a h
 written-same ps m n (IoPort i v) g a h = g a h
 
 -- a refusal more leaves a good block good
-good-more : (S : Pages) (b : List ℕ) → Good S b → Good S (oneMore at.ownRefusals b)
+good-more : (S : Pages) (b : List ℕ) → Good S b → Good S (oneMore at.coreRefusals b)
 unfolding oneMore
-good-more S b G = go (getD b at.ownRefusals 0) (ltb (getD b at.ownRefusals 0) (2 ^ 32 - 1))
+good-more S b G = go (getD b at.coreRefusals 0) (ltb (getD b at.coreRefusals 0) (2 ^ 32 - 1))
   where
-    go : (v : ℕ) (t : Bool) → Good S (if t then set b at.ownRefusals (v + 1) else b)
+    go : (v : ℕ) (t : Bool) → Good S (if t then set b at.coreRefusals (v + 1) else b)
     go v true =
         let A = count-allowed (v + 1) in
-        good-after S b (set b at.ownRefusals (v + 1)) G
-        (ap (λ (r : Registers). r .spr) (set-registers b at.ownRefusals (v + 1) (omega arith)))
-        (subst (Each (WalkOk S)) (sym (set-walks b at.ownRefusals (v + 1) A)) (G .held))
-        (subst (Each (StoreOk S)) (sym (set-stores b at.ownRefusals (v + 1) A)) (G .pending))
+        good-after S b (set b at.coreRefusals (v + 1)) G
+        (ap (λ (r : Registers). r .spr) (set-registers b at.coreRefusals (v + 1) (omega arith)))
+        (subst (Each (WalkOk S)) (sym (set-walks b at.coreRefusals (v + 1) A)) (G .held))
+        (subst (Each (StoreOk S)) (sym (set-stores b at.coreRefusals (v + 1) A)) (G .pending))
     go v false = G
 
 -- so does a step of the core, if its plan does
 good-own : (S : Pages) (c : Bool) (p : Plan) (a : Answer) (b : List ℕ) → Good S b → Good S (blockAfter p b) → Good S (ownAfter c p a b)
 good-own S c p a b G H =
     by-test (Good S) (isAccepted a) (blockAfter p b) _ (λ _. H)
-    (λ _. by-test (Good S) c (oneMore at.ownRefusals b) b (λ _. good-more S b G) (λ _. G))
+    (λ _. by-test (Good S) c (oneMore at.coreRefusals b) b (λ _. good-more S b G) (λ _. G))
 
 -- what a step does within its side
 pub record Steps (S : Pages) (t m : List ℕ) (k : ℕ) (r : Stepped) : Type 0 where

@@ -1,6 +1,6 @@
 -- Demand 3 (01, 'What demand 3 compares'): whatever the other cores hold and do, a group of cores found apart observes
--- the same. A core's own count of refusals, word 115 of its block (02, 'Whose refusals?'), is among what its group sees,
--- and another group's refusals never show there: `Refusals`, below.
+-- the same. A core's count of refusals, word 115 of its block (02, 'Whose refusals?'), is among what its group sees, and
+-- another group's refusals never show there: `Refusals`, below.
 -- Assumes nothing.
 use mathlib.Core.Path.{_≡_}
 use mathlib.Core.Logic.{_⊎_}
@@ -10,9 +10,9 @@ use Prim.Native.Nat.{ℕ, _+_, _*_, _/_, _%_, _^_, _<_}
 use lib.Dec.{eqb, leb}
 use lib.ListN.{length, getD, take, drop}
 use Rattle.word.specs.Word.{if_then_else_, isSet}
-use Rattle.layout.specs.Layout.{pageBytes, blockAt, ownRefusals}
+use Rattle.layout.specs.Layout.{pageBytes, blockAt, coreRefusals}
 use Rattle.layout.specs.Blocks.{block}
-use Rattle.tables.specs.Views.{coresOf, pagesOf, userMode}
+use Rattle.tables.specs.Views.{coresOf, pagesOf, userMode, coreRefusalsOf}
 use Rattle.tlb.specs.Walks.{set-d}
 use Rattle.steps.specs.declared.Answer.{Answer}
 use Rattle.steps.specs.declared.Answer.the-variants.{Done, Interrupt, Refused}
@@ -171,9 +171,12 @@ Demand3 = (g : ℕ) (M : Machine) → Given M → verdict g M ≡ Yes → Promis
 -- ---- Whose refusals, on any tables, sound or not, and for calls of any kind and length
 
 pub record Refusals : Type 0 where
+  -- What the cores cs see includes their counts.
+  pub included : (cs ps : List ℕ) (M N : Machine) → seen cs ps M ≡ seen cs ps N
+      → (k : ℕ) → has k cs ≡ true → coreRefusalsOf (block (M .tables) k) ≡ coreRefusalsOf (block (N .tables) k)
   -- Whose refusal it is agrees with whose step it is: the core whose own word counts it is in the group exactly where
   -- the step is the group's.
-  pub agrees : (g n k : ℕ) (s : List ℕ) → countAt n s ≡ blockAt k + ownRefusals → isOwn g s ≡ isSet g k
+  pub agrees : (g n k : ℕ) (s : List ℕ) → countAt n s ≡ blockAt k + coreRefusals → isOwn g s ≡ isSet g k
   -- A refused step of a core outside the group leaves every block of the group.
   pub unseen : (g : ℕ) (t m s : List ℕ) (number : ℕ) → operation.step t m s .answer ≡ Refused number → isOwn g s ≡ false
       → (k : ℕ) → isSet g k ≡ true → block (operation.step t m s .tables) k ≡ block t k

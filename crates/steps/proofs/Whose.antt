@@ -12,7 +12,7 @@ use lib.ListN.{length}
 use borrow.Author.Tests.{ltb-true, ne-eqb, le-ltb}
 use Rattle.word.specs.Word.{if_then_else_}
 use Rattle.word.proofs.Truth.{and-right, and-none}
-use Rattle.layout.specs.Layout.{blockAt, refusals, ownRefusals}
+use Rattle.layout.specs.Layout.{blockAt, refusals, coreRefusals}
 use Rattle.steps.specs.declared.Step.{Step}
 use Rattle.steps.specs.declared.Step.the-variants.{Core, TlbCreate, TlbExtend, TlbAccessed, StoreBuffer, SendIpi, SendEoi, InitCore, StartCore, Sample, Deliver, SetLine, NotAStep}
 use Rattle.steps.specs.Form.{word, zero2, zero3, zero4, zero5, walkAt, orNot, stepOfCore, stepOfLine, stepOf, lineCount, namesCore, countAt}
@@ -40,15 +40,15 @@ module _ (n : ℕ) (s : List ℕ) where
 -- ---- a well-formed step: the word of the core that it names, and the header's for a step on a line
 
 abbrev countOf : Step → ℕ
-countOf (Core k f d) = blockAt k + ownRefusals
-countOf (TlbCreate k va) = blockAt k + ownRefusals
-countOf (TlbExtend k w) = blockAt k + ownRefusals
-countOf (TlbAccessed k w) = blockAt k + ownRefusals
-countOf (StoreBuffer k) = blockAt k + ownRefusals
-countOf (SendIpi k) = blockAt k + ownRefusals
-countOf (SendEoi k) = blockAt k + ownRefusals
-countOf (InitCore k) = blockAt k + ownRefusals
-countOf (StartCore k) = blockAt k + ownRefusals
+countOf (Core k f d) = blockAt k + coreRefusals
+countOf (TlbCreate k va) = blockAt k + coreRefusals
+countOf (TlbExtend k w) = blockAt k + coreRefusals
+countOf (TlbAccessed k w) = blockAt k + coreRefusals
+countOf (StoreBuffer k) = blockAt k + coreRefusals
+countOf (SendIpi k) = blockAt k + coreRefusals
+countOf (SendEoi k) = blockAt k + coreRefusals
+countOf (InitCore k) = blockAt k + coreRefusals
+countOf (StartCore k) = blockAt k + coreRefusals
 countOf (Sample l) = refusals
 countOf (Deliver l) = refusals
 countOf (SetLine l v) = refusals
@@ -66,9 +66,9 @@ chosen : (c : ℕ) (t : Bool) (x y : Step) → Counts c x → Counts c y → Cou
 chosen c true x y f g = f
 chosen c false x y f g = g
 
-core-counts : (kind k : ℕ) (s : List ℕ) → Counts (blockAt k + ownRefusals) (stepOfCore kind k s)
+core-counts : (kind k : ℕ) (s : List ℕ) → Counts (blockAt k + coreRefusals) (stepOfCore kind k s)
 core-counts kind k s =
-    let c : ℕ = blockAt k + ownRefusals in
+    let c : ℕ = blockAt k + coreRefusals in
     chosen c (eqb kind 0) (Core k (walkAt s 2) (walkAt s 4)) _ (λ _. refl)
     (chosen c (eqb kind 1) _ _ (or-not c (ltb (word s 2) (2 ^ 20) && zero3 s) (TlbCreate k (word s 2)) refl)
     (chosen c (eqb kind 2) _ _ (or-not c (ltb (word s 4) (2 ^ 3) && zero5 s) (TlbExtend k (walkAt s 2)) refl)
@@ -88,7 +88,7 @@ unfolding stepOf countAt
 well-formed n s = go (eqb (length s) 6) (ltb (word s 0) 9) (ltb (word s 1) n) (ltb (word s 0) 12) (ltb (word s 1) lineCount)
   where
     go : (six core there line known : Bool)
-        → Counts (if six && (core && there) then blockAt (word s 1) + ownRefusals else refusals)
+        → Counts (if six && (core && there) then blockAt (word s 1) + coreRefusals else refusals)
         (if six then (if core then orNot there (stepOfCore (word s 0) (word s 1) s) else if line then orNot known (stepOfLine (word s 0) (word s 1) s) else NotAStep) else NotAStep)
     go false core there line known = λ d. absurd (d refl)
     go true true true line known = core-counts (word s 0) (word s 1) s
@@ -100,10 +100,10 @@ well-formed n s = go (eqb (length s) 6) (ltb (word s 0) 9) (ltb (word s 1) n) (l
 -- ---- by cases
 
 -- what holds of the header's word, and of the word of a core that is there
-pub by-count : (P : ℕ → Type 0) (n : ℕ) (s : List ℕ) → P refusals → (word s 1 < n → P (blockAt (word s 1) + ownRefusals)) → P (countAt n s)
+pub by-count : (P : ℕ → Type 0) (n : ℕ) (s : List ℕ) → P refusals → (word s 1 < n → P (blockAt (word s 1) + coreRefusals)) → P (countAt n s)
 unfolding countAt
 by-count P n s h c = go (namesCore n s) refl
   where
-    go : (b : Bool) → namesCore n s ≡ b → P (if b then blockAt (word s 1) + ownRefusals else refusals)
+    go : (b : Bool) → namesCore n s ≡ b → P (if b then blockAt (word s 1) + coreRefusals else refusals)
     go true e = c (ltb-true (word s 1) n (and-right (ltb (word s 0) 9) _ (and-right (eqb (length s) 6) _ e)))
     go false e = h

@@ -6,7 +6,7 @@ use Prim.Native.Nat.{ℕ, _+_, _^_}
 use lib.Dec.{eqb, ltb}
 use lib.ListN.{length, getD}
 use Rattle.word.specs.Word.{if_then_else_}
-use Rattle.layout.specs.Layout.{blockAt, refusals, ownRefusals}
+use Rattle.layout.specs.Layout.{blockAt, refusals, coreRefusals}
 use Rattle.records.specs.declared.Walk.{Walk}
 use Rattle.steps.specs.declared.Step.{Step}
 use Rattle.steps.specs.declared.Step.the-variants.{Core, TlbCreate, TlbExtend, TlbAccessed, StoreBuffer, SendIpi, SendEoi, InitCore, StartCore, Sample, Deliver, SetLine, NotAStep}
@@ -75,4 +75,4 @@ namesCore n s = eqb (length s) 6 && (ltb (word s 0) 9 && ltb (word s 1) n)
 
 -- the word of the tables of n cores that counts a refusal of the words s: that core's, and the header's for the rest
 unfoldable pub countAt : ℕ → List ℕ → ℕ
-countAt n s = if namesCore n s then blockAt (word s 1) + ownRefusals else refusals
+countAt n s = if namesCore n s then blockAt (word s 1) + coreRefusals else refusals

@@ -145,7 +145,7 @@ pub fn count_at(cores: u32, s: &[u32]) -> usize
         return layout::REFUSALS;
     }
     if (s[0] < 9) & (s[1] < cores) {
-        return layout::block_at(s[1]) + layout::OWN_REFUSALS;
+        return layout::block_at(s[1]) + layout::CORE_REFUSALS;
     }
     layout::REFUSALS
 }

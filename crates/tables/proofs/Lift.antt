@@ -84,13 +84,13 @@ module _ (t : List ℕ) (n : ℕ) (e : sound t n ≡ true) where
       other j d = getD-set-other t i j v 0 d
 
   -- another refusal count of a core
-  pub set-count-sound : (k v : ℕ) → k < coresOf t → sound (set t (at.blockAt k + at.ownRefusals) v) n ≡ true
+  pub set-count-sound : (k v : ℕ) → k < coresOf t → sound (set t (at.blockAt k + at.coreRefusals) v) n ≡ true
   set-count-sound k v h =
       let fits = core-fits t n e k h in
       let long = core-long t n e k h in
-      ap (λ (u : List ℕ). sound u n) (set-own t k at.ownRefusals v fits (omega arith))
-      ∙ with-sound k (set (block t k) at.ownRefusals v) h (length-set (block t k) at.ownRefusals v ∙ long)
-      (set-sound (block t k) at.ownRefusals v (count-allowed v) n long (core-sound t n e k h))
+      ap (λ (u : List ℕ). sound u n) (set-own t k at.coreRefusals v fits (omega arith))
+      ∙ with-sound k (set (block t k) at.coreRefusals v) h (length-set (block t k) at.coreRefusals v ∙ long)
+      (set-sound (block t k) at.coreRefusals v (count-allowed v) n long (core-sound t n e k h))
 
   -- other lines
   pub set-lines-sound : (v : ℕ) → v < 2 ^ 24 → sound (set t at.lines v) n ≡ true

@@ -110,7 +110,7 @@ any-allowed i v (inr p) =
     record { low = omega arith; no-head = inr (omega arith); zero-register = λ e. omega arith; gap = λ e. omega arith; rest = λ e. omega arith; running = λ e. omega arith; sipirr = λ e. omega arith; initrr = λ e. omega arith; vector = λ e. omega arith }
 
 -- and the refusal count
-pub count-allowed : (v : ℕ) → Allowed at.ownRefusals v
+pub count-allowed : (v : ℕ) → Allowed at.coreRefusals v
 count-allowed v =
     record { low = omega arith; no-head = inr (omega arith); zero-register = λ e. omega arith; gap = λ e. omega arith; rest = λ e. omega arith; running = λ e. omega arith; sipirr = λ e. omega arith; initrr = λ e. omega arith; vector = λ e. omega arith }
 

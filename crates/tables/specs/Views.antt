@@ -80,5 +80,5 @@ initrrOf b = getD b at.initrr 0
 
 -- ---- the refusal count of a block
 
-abbrev pub ownRefusalsOf : List ℕ → ℕ
-ownRefusalsOf b = getD b at.ownRefusals 0
+abbrev pub coreRefusalsOf : List ℕ → ℕ
+coreRefusalsOf b = getD b at.coreRefusals 0

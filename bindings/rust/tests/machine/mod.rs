@@ -26,7 +26,7 @@ pub const WALKS: usize = 69;
 pub const FREE: usize = 70;
 pub const PORTS: usize = 72;
 pub const INITRR: usize = 114;
-pub const OWN_REFUSALS: usize = 115;
+pub const CORE_REFUSALS: usize = 115;
 pub const RECORDS: usize = 128;
 
 // rights

@@ -29,10 +29,10 @@ is-accepted-requires : tie.Need-is-accepted-requires
 is-accepted-requires c κs = search needs
 
 returns-2 : tie.Need-returns-2
-returns-2 c = step-accepted _ _ _ (sym (c .before .before .before .before .before .before .before .before .before .before .sound .ensures) ∙ not-false _ (c .before .before .before .before .before .before .before .before .before .if1 .left)) (c .before .before .before .before .before .before .take .ensures) (sym (c .before .is-accepted .ensures) ∙ c .if2 .taken)
+returns-2 c = step-refused _ _ _ (sym (c .before .before .before .before .before .before .before .before .before .before .before .before .before .before .sound .ensures) ∙ not-false _ (c .before .before .before .before .before .before .before .before .before .before .before .before .before .if1 .left)) (c .before .before .before .before .before .before .before .before .before .before .take .ensures) (sym (c .before .before .before .before .before .is-accepted .ensures) ∙ not-true _ (c .before .before .before .before .if2 .taken)) (c .before .before .count .ensures)
 
 count-requires : tie.Need-count-requires
-count-requires c κs = count-asks _ _ _ (sym (c .before .before .before .before .before .before .before .before .before .before .before .sound .ensures) ∙ not-false _ (c .before .before .before .before .before .before .before .before .before .before .if1 .left)) (c .before .before .before .before .before .before .before .take .ensures) (sym (c .before .before .is-accepted .ensures) ∙ c .before .if2 .left)
+count-requires c κs = count-asks _ _ _ (sym (c .before .before .before .before .before .before .before .before .before .before .before .sound .ensures) ∙ not-false _ (c .before .before .before .before .before .before .before .before .before .before .if1 .left)) (c .before .before .before .before .before .before .before .take .ensures) (sym (c .before .before .is-accepted .ensures) ∙ not-true _ (c .before .if2 .taken))
 
 same-length-4 : tie.Need-same-length-4
 same-length-4 c = search needs
@@ -41,7 +41,7 @@ same-length-5 : tie.Need-same-length-5
 same-length-5 c = search needs
 
 returns-3 : tie.Need-returns-3
-returns-3 c = step-refused _ _ _ (sym (c .before .before .before .before .before .before .before .before .before .before .before .before .before .before .sound .ensures) ∙ not-false _ (c .before .before .before .before .before .before .before .before .before .before .before .before .before .if1 .left)) (c .before .before .before .before .before .before .before .before .before .before .take .ensures) (sym (c .before .before .before .before .before .is-accepted .ensures) ∙ c .before .before .before .before .if2 .left) (c .before .before .count .ensures)
+returns-3 c = step-accepted _ _ _ (sym (c .before .before .before .before .before .before .before .before .before .before .sound .ensures) ∙ not-false _ (c .before .before .before .before .before .before .before .before .before .if1 .left)) (c .before .before .before .before .before .before .take .ensures) (sym (c .before .is-accepted .ensures) ∙ not-false _ (c .if2 .left))
 
 pub step-spec : {M : Type 1} → statement M
 step-spec =
@@ -52,10 +52,10 @@ step-spec =
     returns
     take-requires
     is-accepted-requires
+    count-requires
     same-length-2
     same-length-3
     returns-2
-    count-requires
     same-length-4
     same-length-5
     returns-3)
