@@ -361,8 +361,8 @@ impl Within {
             Answer::Refused(why) => self.refused[side][why as usize] += 1,
         }
         let rises = matches!(answer, Answer::Refused(_));
-        for k in 0..self.machine.cores() {
-            let after = before[k].saturating_add((rises && k == core).into());
+        for (k, count) in before.into_iter().enumerate() {
+            let after = count.saturating_add((rises && k == core).into());
             assert_eq!(self.machine.block(k)[CORE_REFUSALS], after, "refusals of core {k}");
         }
         self.frame();
