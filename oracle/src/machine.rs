@@ -217,6 +217,7 @@ pub fn step(checked: bool, t: &mut [u32], m: &mut [u8], s: &[u32]) -> Answer {
 }
 
 /// A step of six words on sound tables.
+#[inline]
 fn step_six(t: &mut [u32], m: &mut [u8], s: &[u32; 6]) -> Answer {
     match transition(t, m, s) {
         Ok(None) => Answer::Done,
