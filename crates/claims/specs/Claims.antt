@@ -21,7 +21,7 @@ pub record Claims : Type 0 where
   pub exception : Exception
   -- So a step that the function allows is accepted, or refused by a limit of ours, 7 to 10.
   pub unhindered : Unhindered
-  -- A machine as made is sound, and in a configuration that the report allows after reset.
+  -- A machine as made is sound, in a configuration that the report allows after reset, and has counted no refusal.
   pub reset : Resets
   -- Two machines with the verdict "apart" for a group, alike in the group's blocks and reachable pages, and two lists of steps of kinds 0 to 4, of cores that
   -- run at the start, each up to its first interrupt, in which the group takes the same steps: the group gets the same answers and sees the same state after
