@@ -1,0 +1,233 @@
+#!/usr/bin/env python3
+"""convert.py NAMES CRATE [FUNCTION..]: turns the Proof.antt files below CRATE/proofs to Answers.antt and Invariants.antt.
+
+NAMES is the names.json that `rt check --generated DIR --old-names` writes. The answers that only say what Rattle tries by itself are left out.
+"""
+import json, os, re, sys
+
+names_file, crate = sys.argv[1], sys.argv[2].rstrip('/')
+only = set(sys.argv[3:])
+name = os.path.basename(os.path.abspath(crate))
+lists = json.load(open(names_file))
+by = {}
+for key, of in lists.items():
+    m = re.match(r'Rattle-%s-proofs\.(.*)\.Lts$' % name, key)
+    if m: by[m.group(1)] = of
+
+def norm(s):
+    return s.replace('_', '-').replace("·", "-")
+
+PRE = re.compile(r'^(overflow|nonzero|slice-bounds|bounds|offset-bounds)-')
+TRIVIAL = re.compile(r'^(search rules|omega arith|tt|refl|search \(rules, [a-z-]+\)|\(tt, tt\))$')
+
+def split_decls(text):
+    """Returns the head (comments, uses) and declarations as (comment lines, mods, name, type, rest lines)."""
+    lines = text.split('\n')
+    head, i = [], 0
+    while i < len(lines) and (lines[i].startswith('--') or lines[i].startswith('use ') or not lines[i].strip()):
+        # a comment that belongs to a declaration
+        if lines[i].startswith('--'):
+            j = i
+            while j < len(lines) and lines[j].startswith('--'): j += 1
+            if j < len(lines) and lines[j].strip() and not lines[j].startswith('use '):
+                break
+        head.append(lines[i]); i += 1
+    decls, cur = [], []
+    for l in lines[i:]:
+        starts = l and not l[0].isspace() and not l.startswith('--') and re.match(r'^((abbrev|pub|unfoldable|ruleset|module) )*[^\s:]+( [^\s:]+)* :|^(pub )?(ruleset|data|record|module)', l)
+        cur.append(l)
+    # blocks by blank lines at column 0 starts
+    blocks, b = [], []
+    for l in lines[i:]:
+        if not l.strip():
+            if b: blocks.append(b); b = []
+        else: b.append(l)
+    if b: blocks.append(b)
+    # a block may be the continuation (indented) of the one before
+    out = []
+    for b in blocks:
+        if out and b[0][0].isspace(): out[-1] += [''] + b
+        else: out.append(b)
+    return head, out
+
+def paths(of):
+    steps, kinds = {}, {}
+    for place in of['places']:
+        new, parent, pair = place[0], place[1], place[2]
+        if pair[0]: steps.setdefault(norm(pair[0]), []).append(pair[1])
+    return steps
+
+def convert(folder, fn, of):
+    path = os.path.join(folder, 'Proof.antt')
+    text = open(path).read()
+    notes = []
+    head, blocks = split_decls(text)
+    needs = {}
+    for old, new in of['needs']:
+        needs.setdefault(norm(old), new)
+    steps = {}
+    for place in of['places']:
+        if place[2][0]:
+            k = norm(place[2][0])
+            if k in steps and steps[k] != place[2][1]: notes.append(f'two steps {k}: {steps[k]} {place[2][1]}')
+            steps.setdefault(k, place[2][1])
+    placenames = {}
+    for old, new in of['asked_at']:
+        placenames[norm(old)] = new
+    for p, n in zip(of['places'], of.get('places_by_name', [])):
+        placenames.setdefault(norm(p[0]), n)
+    typed = {}
+    for t in of['typed']:
+        for v, s in t: typed.setdefault(norm(s), v)
+    loops = {}
+    for k, (pair, vs) in enumerate(of['loops']):
+        loops[norm(pair[0])] = (pair[1], vs, of['changed'][k] if k < len(of['changed']) else None)
+    # the spec's arguments, in the order of the needs
+    argn = {}
+    helpers = {}
+    goal_of = {}
+    for b in blocks:
+        s = '\n'.join(b)
+        m = re.search(r'^(?:abbrev |pub )*(\S+) : \(c : tie\.([^\s)]+)', s, re.M)
+        if m: helpers[m.group(1)] = norm(m.group(2))
+    def new_need(old):
+        k = norm(PRE.sub('', norm(old)))
+        if k in needs: return needs[k]
+        if norm(old) in needs: return needs[norm(old)]
+        m = re.match(r'(part-)?(.*)$', k)
+        for cand in ('part-' + k, 'slice-' + k, 'same-' + k):
+            if cand in needs: return needs[cand]
+        return None
+    used_places = set()
+    def body(t, goalname, at_lemma=None):
+        # helper lemmas: low c.before.before  ->  low (goal.at.G c).PLACE
+        for h, pl in helpers.items():
+            place = placenames.get(pl)
+            def sub(m):
+                if goalname:
+                    return f'{h} (goal.at.{goalname} c).{place}'
+                return m.group(0)
+            if goalname:
+                t = re.sub(r"(?<![\w'-])" + re.escape(h) + r' (?:\(c\)|c(?:\.before)*)(?![\w.-])', sub, t)
+        def chain(m):
+            rest = m.group(2)  # starts with '.'
+            parts = rest.split('.')
+            parts = [p for p in parts[1:] if p != 'before']
+            if not parts: return 'c'
+            k = norm(parts[0])
+            if k in typed and len(parts) > 1 and parts[1] == 'given':
+                return '.'.join(['c', 'type_inv', typed[k]] + parts[2:])
+            if k in typed and k not in ('args',):
+                return '.'.join(['c', 'type_inv', typed[k]] + parts[1:])
+            if k in steps: parts[0] = steps[k]
+            elif parts[0] not in ('args', 'requires', 'ranges', 'well_formed', 'lifetimes', 'type_inv'):
+                notes.append(f'unknown step {parts[0]}')
+            return '.'.join(['c'] + parts)
+        t = re.sub(r"(?<![\w'.-])(c)((?:\.[A-Za-z0-9_'-]+)+)", chain, t)
+        return t
+    answers, invariants, keep = [], [], []
+    for b in blocks:
+        comments = []
+        while b and b[0].startswith('--'): comments.append(b[0]); b = b[1:]
+        if not b: continue
+        s = '\n'.join(b)
+        m = re.match(r"((?:abbrev |pub |unfoldable )*)(\S+) :(.*?)(?=\n\S)", s, re.S)
+        if not m:
+            keep.append('\n'.join(comments + b)); continue
+        mods, n, ty = m.group(1), m.group(2), m.group(3).strip()
+        rest = s[m.end():].lstrip('\n')
+        if 'statement M' in ty: continue
+        unf = ''
+        mm = re.match(r'(unfolding[^\n]*)\n', rest)
+        if mm: unf, rest = mm.group(1), rest[mm.end():]
+        mi = re.match(r'tie\.(invariant|decreases|measure)-?(\S*)', ty)
+        if mi:
+            k = norm(mi.group(2))
+            if k not in loops:
+                notes.append(f'no loop {k}'); keep.append('\n'.join(comments + b)); continue
+            new, vs, changed = loops[k]
+            mp = re.match(re.escape(n) + r"((?: [^\s=]+)*) =", rest)
+            params = mp.group(1).split()
+            expr = rest[mp.end():]
+            ch = [v for v, c in zip(vs, changed) if c] if changed else []
+            expected = len(vs) + len(ch)
+            if len(params) != expected: notes.append(f'{mi.group(0)}: {len(params)} parameters for {vs} {changed}')
+            table = {}
+            for j, p in enumerate(params):
+                if j < len(vs): table[p] = f'l.initial.{vs[j]}' if changed and changed[j] else f'l.{vs[j]}'
+                elif j - len(vs) < len(ch): table[p] = f'l.{ch[j - len(vs)]}'
+            table.pop('_', None)
+            expr = re.sub(r"[^\s(){}\[\].,;λ]+(?:\.[^\s(){}\[\],;]+)*", lambda q: (lambda w, *r: '.'.join([table[w], *r]) if w in table else q.group(0))(*q.group(0).split('.')), expr)
+            kind = 'invariant' if mi.group(1) == 'invariant' else 'decreases'
+            nn = f'{kind}-{new}'
+            invariants.append('\n'.join(comments + [f'abbrev pub {nn} : goal.{nn}'] + ([unf] if unf else []) + [f'{nn} l ={expr}']))
+            continue
+        mn = re.match(r'tie\.Need-(\S+)', ty)
+        if mn:
+            new = new_need(mn.group(1))
+            if not new:
+                notes.append(f'no goal for {mn.group(1)}'); keep.append('\n'.join(comments + b)); continue
+            mp = re.match(re.escape(n) + r"((?: [^\s=]+)*) =", rest)
+            if not mp:
+                notes.append(f'{n} by clauses'); keep.append('\n'.join(comments + b)); continue
+            expr = rest[mp.end():]
+            if TRIVIAL.match(expr.strip()) and not unf: continue
+            if norm(mn.group(1)).startswith('same-length') and 'auto' in expr: continue
+            e = body(expr, new)
+            answers.append('\n'.join(comments + [f'pub {new} : goal.{new}'] + ([unf] if unf else []) + [f'{new} c ={e}']))
+            continue
+        mh = re.search(r'\(c : tie\.([^\s)]+)[^)]*\)', ty)
+        if mh:
+            place = placenames.get(norm(mh.group(1)))
+            used_places.add(place)
+            ty2 = ty.replace(mh.group(0), f'(c : {place})')
+            answers.append('\n'.join(comments + [f'{mods}{n} : {body(ty2, None)}'] + ([unf] if unf else []) + [body(rest, None)]))
+            continue
+        # any other lemma
+        answers.append('\n'.join(comments + [f'{mods}{n} : {ty}'] + ([unf] if unf else []) + [rest]))
+    uses, comm = [], []
+    for l in head:
+        if l.startswith('use '):
+            if re.search(r'\.(Statement|Tie)(\.\{statement\}| as tie)?$', l): continue
+            if 'borrow.Author.Rules' in l: l = 'use borrow.Author.Rules.{rules}'
+            uses.append(l)
+        elif l.startswith('--'): comm.append(l)
+    f = fn
+    alltext = '\n\n'.join(answers)
+    def relevant(us, t):
+        out = []
+        for u in us:
+            m = re.match(r'use (.*)\.\{(.*)\}$', u)
+            if not m:
+                mm = re.match(r'use .* as (\S+)$', u)
+                if mm and not re.search(r"(?<![\w'-])" + re.escape(mm.group(1)) + r'\.', t): continue
+                out.append(u); continue
+            items = []
+            for it in m.group(2).split(', '):
+                w = it.split(' as ')[-1].strip()
+                core = [x for x in w.split('◌') if x]
+                if any(re.search(r"(?<![\w'-])" + re.escape(x) + r"(?![\w'-])", t) if re.match(r"\w", x) else x in t for x in core) or not core: items.append(it.strip())
+            if items: out.append(f'use {m.group(1)}.{{{", ".join(items)}}}')
+        return out
+    if invariants:
+        t = '\n\n'.join(invariants)
+        with open(os.path.join(folder, 'Invariants.antt'), 'w') as o:
+            o.write('\n'.join(comm + relevant(uses, t) + [f'use Rattle.{name}.proofs.{f}.Given as goal', '', t, '']))
+    if answers:
+        extra = [f'use Rattle.{name}.proofs.{f}.Goals.{{{", ".join(sorted(used_places))}}}'] if used_places else []
+        with open(os.path.join(folder, 'Answers.antt'), 'w') as o:
+            o.write('\n'.join((comm if not invariants else []) + relevant(uses, alltext) + [f'use Rattle.{name}.proofs.{f}.Goals as goal'] + extra + ['', alltext, '']))
+    if keep:
+        notes.append('kept: ' + ' | '.join(k.split('\n')[0] for k in keep))
+        with open(os.path.join(folder, 'Answers.antt'), 'a') as o:
+            o.write('\n' + '\n\n'.join('-- KEPT\n' + k for k in keep) + '\n')
+    os.remove(path)
+    for x in sorted(set(notes)): print(f'{name} {fn}: {x}')
+
+for root, dirs, files in os.walk(os.path.join(crate, 'proofs')):
+    if 'Proof.antt' in files:
+        fn = os.path.relpath(root, os.path.join(crate, 'proofs')).replace(os.sep, '.')
+        if only and fn not in only: continue
+        if fn not in by:
+            print(f'{name} {fn}: not in names.json: {[k for k in by if k.endswith(fn.split(".")[-1])][:3]}'); continue
+        convert(root, fn, by[fn])
