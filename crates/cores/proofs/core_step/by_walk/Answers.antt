@@ -1,0 +1,26 @@
+use mathlib.Core.Path.{sym, ◌∙◌, refl}
+use borrow.Author.Tests.{not-true, not-false}
+use Rattle.cores.proofs.Judging.{fetch_unfit, fetch_fit, fetch_faults, fetch_undecided}
+use Rattle.cores.proofs.Held.{records_linked, held_base}
+use Rattle.cores.specs.Plans.{refused}
+use Rattle.tlb.specs.declared.Faulting.TheVariants.{Faults, Passes, Undecided}
+use Rattle.tlb.specs.Walks.{hit}
+use Rattle.cores.proofs.core_step.by_walk.Goals as goal
+
+pub fits-requires : goal.fits-requires
+fits-requires c = (c.requires.0.long, records_linked _ _ c.requires.0.records)
+
+pub returns-then-not-fits : goal.returns-then-not-fits
+returns-then-not-fits c = c.refused.ensures ∙ fetch_unfit _ _ _ _ _ c.fits2.result (rw (← c.user-user.ensures, ← c.fetch_request-t.ensures) c.fits2.ensures) (not-true _ c.if-not-fits.true)
+
+pub passed-requires : goal.passed-requires
+passed-requires c = (c.requires.0, (c.requires.1, rw (← c.user-user.ensures) (held_base _ c.args.b.now c.args.fetch c.user-user.result (hit c.fetch_request-t.result c.args.fetch) c.requires.0.records (sym c.fits2.ensures ∙ not-false _ c.if-not-fits.false))))
+
+pub returns-in-Passes : goal.returns-in-Passes
+returns-in-Passes c = c.passed.ensures ∙ fetch_fit _ _ _ _ _ c.fits2.result Passes (rw (← c.user-user.ensures, ← c.fetch_request-t.ensures) c.fits2.ensures) (not-false _ c.if-not-fits.false) (sym c.in-Passes.is ∙ (rw (← c.user-user.ensures, ← c.fetch_request-t.ensures) c.fault-f.ensures))
+
+pub returns-in-Faults : goal.returns-in-Faults
+returns-in-Faults c = c.stopped.ensures ∙ (rw (c.without-ca.ensures, c.faulted.ensures, c.fetch_request-t.ensures) refl ∙ (fetch_faults _ _ _ _ _ ∙ fetch_fit _ _ _ _ _ c.fits2.result Faults (rw (← c.user-user.ensures, ← c.fetch_request-t.ensures) c.fits2.ensures) (not-false _ c.if-not-fits.false) (sym c.in-Faults.is ∙ (rw (← c.user-user.ensures, ← c.fetch_request-t.ensures) c.fault-f.ensures))))
+
+pub returns-in-Undecided : goal.returns-in-Undecided
+returns-in-Undecided c = c.refused-in-Undecided.ensures ∙ (fetch_undecided _ _ _ _ _ ∙ fetch_fit _ _ _ _ _ c.fits2.result Undecided (rw (← c.user-user.ensures, ← c.fetch_request-t.ensures) c.fits2.ensures) (not-false _ c.if-not-fits.false) (sym c.in-Undecided.is ∙ (rw (← c.user-user.ensures, ← c.fetch_request-t.ensures) c.fault-f.ensures)))

@@ -1,0 +1,5 @@
+use mathlib.Core.Path.{refl}
+use Rattle.cores.proofs.translation.ends.Goals as goal
+
+pub returns : goal.returns
+returns c = rw c.complete.ensures refl

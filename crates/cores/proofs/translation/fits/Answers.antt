@@ -1,0 +1,12 @@
+use Rattle.cores.proofs.Held.{not_hit, held_hit}
+use mathlib.Core.Path.{sym, ◌∙◌, ap}
+use mathlib.Core.Bool.{not}
+use Rattle.records.specs.Records.{walks, among}
+use Rattle.tlb.specs.Walks.{hit}
+use Rattle.cores.proofs.translation.fits.Goals as goal
+
+pub returns-then-not-hit : goal.returns-then-not-hit
+returns-then-not-hit c = let e = c in not_hit e.args.user (among e.args.w (walks e.args.b.now)) (hit e.args.request e.args.w) c.if-not-user.false (ap not (sym c.hit.ensures) ∙ c.if-not-hit.true)
+
+pub returns : goal.returns
+returns c = let e = c in c.holds_walk.ensures ∙ held_hit e.args.user (among e.args.w (walks e.args.b.now)) (hit e.args.request e.args.w) c.if-not-user.false (ap not (sym c.hit.ensures) ∙ c.if-not-hit.false)

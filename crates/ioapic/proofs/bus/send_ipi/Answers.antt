@@ -1,0 +1,15 @@
+-- `ioapic::bus::send_ipi` meets its contract.
+use mathlib.Core.Path.{ap, ◌∙◌}
+use Rattle.apic.specs.Active.{idle}
+use Rattle.ioapic.specs.Bus.{broadcast, send_ipi}
+use Rattle.layout.proofs.Blocks.{part_done}
+use Rattle.ioapic.proofs.bus.send_ipi.Goals as goal
+
+pub returns : goal.returns
+unfolding send_ipi
+returns c =
+    let i = c in
+    let s = i.before.before in
+    let a = s.before.before.args in
+    c.broadcast.ensures
+    ∙ ap (broadcast a.n a.i a.m) (part_done a.t.now a.i s.block_at_lem.result s.block_at_lem.ensures idle i.idle.new.0 i.idle.ensures)

@@ -1,0 +1,113 @@
+-- `machine::decide::plan` meets its contract.
+-- Assumes nothing.
+use mathlib.Core.Path.{◌≡◌, refl, sym, ap, ◌∙◌}
+use mathlib.Core.Bool.{true, false}
+use Prim.Native.Nat.{ℕ, ◌+◌, ◌*◌, ◌^◌, ◌<◌, ◌≤◌}
+use mathlib.Core.List.{List}
+use lib.ListN.{length}
+use lib.Dec.{ltb}
+use borrow.Author.Tests.{ltb-true}
+use Rattle.word.proofs.Tests.{true_false}
+use Rattle.word.proofs.Truth.{and_left, and_right}
+use Rattle.layout.specs.Blocks.{block}
+use Rattle.records.specs.Records.{linked}
+use Rattle.tables.specs.Views.{cores_of}
+use Rattle.steps.specs.declared.Step.{Step}
+use Rattle.steps.specs.declared.Step.TheVariants.{TlbCreate}
+use Rattle.machine.specs.Decide.{by_step}
+use Rattle.machine.specs.inner.Split.{formed, is_planned}
+use Rattle.machine.proofs.Fitting.{has, records_sound, chains, quarters}
+use Rattle.machine.proofs.Forms.{found}
+use Rattle.machine.proofs.decide.plan.Goals as goal
+
+-- what the step of an arm has: a core that is there, its block and its chains; and that it has a plan
+formed_at : (s : tie.Start) {x : Step} → s.args.p ≡ x → formed (cores_of s.args.t.now) x ≡ true
+formed_at s q = found (cores_of s.args.t.now) s.requires.1.0 q
+
+create_formed : (s : tie.Start) {k va : ℕ} → s.args.p ≡ TlbCreate k va → (ltb k (cores_of s.args.t.now) ≡ true) × (va < 2 ^ 20)
+create_formed s {k} {va} q = let f = formed_at s q in (and_left (ltb k (cores_of s.args.t.now)) _ f, ltb-true va (2 ^ 20) (and_right (ltb k (cores_of s.args.t.now)) _ f))
+
+block_in : (s : tie.Start) (k : ℕ) → ltb k (cores_of s.args.t.now) ≡ true → 32 + 256 * k + 256 ≤ length s.args.t.now
+block_in s k h = has s.args.t.now (length s.args.m.now) s.requires.0 k h
+
+chains_in : (s : tie.Start) (k : ℕ) {b : List ℕ} → ltb k (cores_of s.args.t.now) ≡ true → b ≡ block s.args.t.now k → linked b ≡ true
+chains_in s k h q = ap linked q ∙ chains s.args.t.now (length s.args.m.now) s.requires.0 k h
+
+no_plan : (s : tie.Start) {x : Step} {A : Type 0} → s.args.p ≡ x → is_planned x ≡ false → A
+no_plan s q f = absurd (true_false (sym s.requires.1.1 ∙ ap is_planned q ∙ f))
+
+pub core-requires : goal.core-requires
+core-requires c =
+    let s = c in
+    let f = formed_at s c.in-Core.is in
+    (block_in s _ f, (records_sound s.args.t.now (length s.args.m.now) s.requires.0 _ f, quarters s.args.t.now (length s.args.m.now) s.requires.0))
+
+pub block-requires : goal.block-requires
+block-requires c = block_in c _ (create_formed c c.in-TlbCreate.is).0
+
+pub create-requires : goal.create-requires
+create-requires c =
+    let f = create_formed c c.in-TlbCreate.is in
+    (c.block.ensures.1, (chains_in c _ f.0 c.block.ensures.0, f.1))
+
+pub block-requires-in-TlbExtend : goal.block-requires-in-TlbExtend
+block-requires-in-TlbExtend c = block_in c _ (formed_at c c.in-TlbExtend.is)
+
+pub extend-requires : goal.extend-requires
+extend-requires c = (c.block-in-TlbExtend.ensures.1, chains_in c _ (formed_at c c.in-TlbExtend.is) c.block-in-TlbExtend.ensures.0)
+
+pub block-requires-in-TlbAccessed : goal.block-requires-in-TlbAccessed
+block-requires-in-TlbAccessed c = block_in c _ (formed_at c c.in-TlbAccessed.is)
+
+pub accessed-requires : goal.accessed-requires
+accessed-requires c = (c.block-in-TlbAccessed.ensures.1, chains_in c _ (formed_at c c.in-TlbAccessed.is) c.block-in-TlbAccessed.ensures.0)
+
+pub block-requires-in-StoreBuffer : goal.block-requires-in-StoreBuffer
+block-requires-in-StoreBuffer c = block_in c _ (formed_at c c.in-StoreBuffer.is)
+
+pub drain-requires : goal.drain-requires
+drain-requires c = (c.block-in-StoreBuffer.ensures.1, chains_in c _ (formed_at c c.in-StoreBuffer.is) c.block-in-StoreBuffer.ensures.0)
+
+pub returns-in-Core : goal.returns-in-Core
+unfolding by_step
+returns-in-Core c = rw (c.in-Core.is, c.core.ensures) refl
+
+pub returns-in-TlbCreate : goal.returns-in-TlbCreate
+unfolding by_step
+returns-in-TlbCreate c = rw (c.in-TlbCreate.is, c.create.ensures, c.block.ensures.0) refl
+
+pub returns-in-TlbExtend : goal.returns-in-TlbExtend
+unfolding by_step
+returns-in-TlbExtend c = rw (c.in-TlbExtend.is, c.extend.ensures, c.block-in-TlbExtend.ensures.0) refl
+
+pub returns-in-TlbAccessed : goal.returns-in-TlbAccessed
+unfolding by_step
+returns-in-TlbAccessed c = rw (c.in-TlbAccessed.is, c.accessed.ensures, c.block-in-TlbAccessed.ensures.0) refl
+
+pub returns-in-StoreBuffer : goal.returns-in-StoreBuffer
+unfolding by_step
+returns-in-StoreBuffer c = rw (c.in-StoreBuffer.is, c.drain.ensures, c.block-in-StoreBuffer.ensures.0) refl
+
+pub returns-in-SendIpi : goal.returns-in-SendIpi
+returns-in-SendIpi c = no_plan c c.in-SendIpi.is refl
+
+pub returns-in-SendEoi : goal.returns-in-SendEoi
+returns-in-SendEoi c = no_plan c c.in-SendEoi.is refl
+
+pub returns-in-InitCore : goal.returns-in-InitCore
+returns-in-InitCore c = no_plan c c.in-InitCore.is refl
+
+pub returns-in-StartCore : goal.returns-in-StartCore
+returns-in-StartCore c = no_plan c c.in-StartCore.is refl
+
+pub returns-in-Sample : goal.returns-in-Sample
+returns-in-Sample c = no_plan c c.in-Sample.is refl
+
+pub returns-in-Deliver : goal.returns-in-Deliver
+returns-in-Deliver c = no_plan c c.in-Deliver.is refl
+
+pub returns-in-SetLine : goal.returns-in-SetLine
+returns-in-SetLine c = no_plan c c.in-SetLine.is refl
+
+pub returns-in-NotAStep : goal.returns-in-NotAStep
+returns-in-NotAStep c = no_plan c c.in-NotAStep.is refl

@@ -1,0 +1,11 @@
+-- `mips86::mips86_apart` meets its contract.
+-- Assumes nothing.
+use mathlib.Core.Path.{sym, ◌∙◌}
+use Rattle.mips86.proofs.Numbers.{verdict_fits, yes_number}
+use Rattle.mips86.proofs.mips86_apart.Goals as goal
+
+pub verdict_number-requires : goal.verdict_number-requires
+verdict_number-requires c = let e = c in rw c.apart.ensures.value (verdict_fits e.args.group e.args.tables.now e.args.memory.now)
+
+pub returns : goal.returns
+returns c = (c.verdict_number.ensures ∙ c.apart.ensures.promised.1, λ h. c.apart.ensures.promised.0 (yes_number _ (sym c.verdict_number.ensures ∙ h)))

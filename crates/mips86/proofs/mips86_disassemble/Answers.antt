@@ -1,0 +1,16 @@
+-- `mips86::mips86_disassemble` meets its contract.
+-- Assumes nothing.
+use mathlib.Core.Path.{ap, ◌∙◌}
+use Rattle.disassemble.specs.Disassembly.{disassembled_number}
+use Rattle.mips86.proofs.Numbers.{disassembled_fits}
+use Rattle.mips86.proofs.mips86_disassemble.Goals as goal
+
+pub disassembled_number-requires : goal.disassembled_number-requires
+disassembled_number-requires c =
+    let e = c in
+    rw c.disassemble.ensures.value (disassembled_fits e.args.word e.args.text.now)
+
+pub returns : goal.returns
+returns c =
+    let r = c.disassemble.ensures in
+    (c.disassembled_number.ensures ∙ ap (λ a. disassembled_number a) r.0, r.1.0)

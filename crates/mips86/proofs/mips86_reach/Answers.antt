@@ -1,0 +1,11 @@
+-- `mips86::mips86_reach` meets its contract.
+-- Assumes nothing.
+use mathlib.Core.Path.{◌∙◌}
+use Rattle.mips86.proofs.Numbers.{reached_fits}
+use Rattle.mips86.proofs.mips86_reach.Goals as goal
+
+pub reached_number-requires : goal.reached_number-requires
+reached_number-requires c = let e = c in rw c.reach-r.ensures.value (reached_fits e.args.group e.args.tables.now e.args.memory.now e.args.map.now)
+
+pub returns : goal.returns
+returns c = (c.reached_number.ensures ∙ c.reach-r.ensures.map_after.1.0, (c.beyond_number.ensures ∙ c.reach-r.ensures.map_after.1.1, c.reach-r.ensures.map_after.0))

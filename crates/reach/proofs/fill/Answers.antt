@@ -1,0 +1,37 @@
+-- `reach::fill` meets its contract: proofs/Closing.antt ties the marks to what is reached.
+-- Assumes nothing.
+use mathlib.Core.Path.{◌∙◌}
+use native.Mathlib.Omega.{arith}
+use Rattle.word.proofs.Bytes.{Bytes}
+use Rattle.tables.proofs.Lift.{header}
+use Rattle.reach.proofs.Closing.{zeros, zeros_long, zeros_blank, filled_beyond, filled_map}
+use Rattle.reach.proofs.Low.{Words, core_linked}
+use Rattle.reach.proofs.Marking.{marked_long}
+use Rattle.reach.proofs.fill.Goals as goal
+
+pub bounds-t-0 : goal.bounds-t-0
+bounds-t-0 c = omega (arith, (header _ _ c.requires.0).long)
+
+pub bounds-t-1 : goal.bounds-t-1
+bounds-t-1 c = omega (arith, (header _ _ c.requires.0).long)
+
+pub mark_cores-named-requires : goal.mark_cores-named-requires
+mark_cores-named-requires c = let e = c in let h = header _ _ e.requires.0 in ((zeros_long, h.few_pages, h.few_cores, omega (arith, h.long)), core_linked _ e.args.m.now e.requires.0)
+
+pub pass-seconds-requires : goal.pass-seconds-requires
+pass-seconds-requires c = let h = header _ _ c.requires.0 in ((marked_long c.mark_cores-named.ensures ∙ zeros_long, h.few_pages, omega arith), h.bytes)
+
+pub pass-datas-requires : goal.pass-datas-requires
+pass-datas-requires c = let h = header _ _ c.requires.0 in ((marked_long c.pass-seconds.ensures ∙ marked_long c.mark_cores-named.ensures ∙ zeros_long, h.few_pages, omega arith), h.bytes)
+
+pub write_map-requires : goal.write_map-requires
+write_map-requires c = let e = c in let h = header _ _ e.requires.0 in (marked_long c.pass-datas.ensures ∙ marked_long c.pass-seconds.ensures ∙ marked_long c.mark_cores-named.ensures ∙ zeros_long, h.few_pages, e.requires.1)
+
+pub returns : goal.returns
+returns c =
+    let e = c in
+    let words : Words e.args.t.now = λ i. omega (arith, c.type_inv.t i) in
+    let bytes : Bytes e.args.m.now = λ i. omega (arith, c.type_inv.m i) in (
+      filled_beyond e.args.t.now e.args.m.now e.args.group e.requires.0 words bytes zeros zeros_long zeros_blank _ _ _ _ _ _ c.mark_cores-named.ensures c.pass-seconds.ensures c.pass-datas.ensures,
+      filled_map e.args.t.now e.args.m.now e.args.group e.requires.0 words bytes zeros zeros_long zeros_blank _ _ _ _ _ _ c.mark_cores-named.ensures c.pass-seconds.ensures c.pass-datas.ensures _ c.write_map.ensures,
+    )

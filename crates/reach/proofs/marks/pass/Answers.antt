@@ -1,0 +1,23 @@
+use mathlib.Core.Path.{◌∙◌}
+use Prim.Native.Nat.{◌-◌}
+use native.Mathlib.Omega.{arith}
+use Rattle.reach.proofs.Passes.{pass_next, pass_end}
+use Rattle.reach.proofs.Marking.{loop_start, marked_long}
+use Rattle.reach.proofs.marks.pass.Goals as goal
+
+pub loop-p-init : goal.loop-p-init
+loop-p-init c = (omega arith, loop_start _ _ _)
+
+pub scan_marked-stray-requires : goal.scan_marked-stray-requires
+scan_marked-stray-requires c = let e = c in ((marked_long c.loop-p.invariant.1 ∙ e.requires.0.0, e.requires.0.1, e.requires.0.2), (e.requires.1, c.loop-p-test.true))
+
+pub loop-p-preserved : goal.loop-p-preserved
+loop-p-preserved c =
+    let e = c in
+    (omega arith, pass_next _ _ _ _ _ _ e.args.kind _ c.loop-p.p e.requires.0.1 e.requires.0.2 c.loop-p-test.true e.requires.0.0 c.loop-p.invariant.1 c.scan_marked-stray.ensures)
+
+pub shape_of-s : goal.shape_of-s
+shape_of-s c = marked_long c.loop-p.invariant.1
+
+pub returns : goal.returns
+returns c = pass_end _ _ _ _ _ _ _ (omega arith) c.loop-p.invariant.1

@@ -1,0 +1,23 @@
+use mathlib.Core.Path.{◌∙◌}
+use Prim.Native.Nat.{◌-◌}
+use native.Mathlib.Omega.{arith}
+use Rattle.reach.proofs.Marking.{loop_start, scan_next, scan_end, marked_long}
+use Rattle.reach.proofs.marks.scan.Goals as goal
+
+pub loop-i-init : goal.loop-i-init
+loop-i-init c = (omega arith, loop_start _ _ _)
+
+pub mark_four-beyond-requires : goal.mark_four-beyond-requires
+mark_four-beyond-requires c = let e = c in (marked_long c.loop-i.invariant.1 ∙ e.requires.0.0, e.requires.0.1, e.requires.0.2, omega arith)
+
+pub loop-i-preserved : goal.loop-i-preserved
+loop-i-preserved c =
+    let e = c in
+    let l = c.loop-i in
+    (omega arith, scan_next _ _ _ _ _ _ _ _ e.args.p l.i e.requires.1.0 e.requires.0.1 e.requires.1.1 c.loop-i-test.true l.invariant.1 c.mark_four-beyond.ensures)
+
+pub shape_of-s : goal.shape_of-s
+shape_of-s c = marked_long c.loop-i.invariant.1
+
+pub returns : goal.returns
+returns c = scan_end _ _ _ _ _ _ _ _ (omega arith) c.loop-i.invariant.1

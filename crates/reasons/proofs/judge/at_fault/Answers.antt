@@ -1,0 +1,22 @@
+-- `reasons::judge::at_fault` meets its contract.
+-- Assumes nothing.
+use mathlib.Core.Path.{sym}
+use native.Mathlib.Omega.{arith}
+use Rattle.tables.proofs.Lift.{header}
+use Rattle.separation.proofs.Deciding.{room}
+use Rattle.reasons.proofs.judge.at_fault.Goals as goal
+
+pub bounds-t-1 : goal.bounds-t-1
+bounds-t-1 c = omega (arith, (header _ _ c.requires.0.0).long)
+
+pub overflow_cast-pages : goal.overflow_cast-pages
+overflow_cast-pages c = record { fits = omega (arith, (header _ _ c.requires.0.0).few_pages) }
+
+pub slice_bounds-marks-end : goal.slice_bounds-marks-end
+slice_bounds-marks-end c = omega (arith, (header _ _ c.requires.0.0).few_pages)
+
+pub slice_bounds-marked-end : goal.slice_bounds-marked-end
+slice_bounds-marked-end c = sym (room _ (header _ _ c.requires.0.0).few_pages)
+
+pub marked-requires : goal.marked-requires
+marked-requires c = let e = c in let h = header _ _ e.requires.0.0 in (e.requires.0, (e.requires.1.0, e.requires.1.1, room _ h.few_pages))

@@ -1,0 +1,16 @@
+-- `reasons::judge::beyond` meets its contract.
+-- Assumes nothing.
+use mathlib.Core.Path.{◌∙◌}
+use Rattle.tables.specs.Views.{cores_of}
+use Rattle.reach.specs.Reach.{members}
+use Rattle.reasons.proofs.Reasons.{beyond_is, beyond_none}
+use Rattle.reasons.proofs.judge.beyond.Goals as goal
+
+pub find-requires : goal.find-requires
+find-requires c = (c.requires.0, c.requires.1.0)
+
+pub returns-then-strays : goal.returns-then-strays
+returns-then-strays c = let a = c.args in c.find.ensures ∙ beyond_is (members a.group (cores_of a.t.now)) a.t.now a.m.now a.map.now
+
+pub returns : goal.returns
+returns c = let e = c in let a = e.args in beyond_none (members a.group (cores_of a.t.now)) a.t.now a.m.now _ e.requires.1.1 c.if-strays.false

@@ -1,0 +1,13 @@
+-- `records::count_walks` meets its contract: a list is as long as its chain.
+-- Assumes nothing.
+use mathlib.Core.Path.{sym, ◌∙◌}
+use native.Mathlib.Omega.{arith}
+use Rattle.records.proofs.Fold.{walks_length}
+use Rattle.records.proofs.Along.{walks_small}
+use Rattle.records.proofs.count_walks.Goals as goal
+
+pub chain_length-requires : goal.chain_length-requires
+chain_length-requires c = let p = c.requires in (p.0, (omega arith, walks_small _ p.0 p.1))
+
+pub returns : goal.returns
+returns c = c.chain_length.ensures ∙ sym (walks_length _)

@@ -1,0 +1,14 @@
+-- `records::take_store` meets its contract: the first store's record is below 32.
+-- Assumes nothing.
+use borrow.Author.Rules.{rules}
+use native.Mathlib.Omega.{arith}
+use Rattle.records.specs.Records.{take_store}
+use Rattle.records.proofs.Along.{head_of}
+use Rattle.records.proofs.take_store.Goals as goal
+
+pub release-requires : goal.release-requires
+release-requires c = let p = c.requires in (p.0, (omega arith, (head_of _ p.0 p.1).0))
+
+pub returns : goal.returns
+unfolding take_store
+returns c = search rules

@@ -1,0 +1,11 @@
+-- `separation::apart` meets its contract: what a yes promises is demand 3.
+-- Assumes nothing.
+use mathlib.Core.Path.{sym, ap, ◌∙◌}
+use native.Mathlib.Omega.{arith}
+use Rattle.separation.specs.Apart.{verdict_number}
+use Rattle.separation.specs.Separation.{machine_of}
+use Rattle.separation.proofs.Separation.{separation}
+use Rattle.separation.proofs.apart.Goals as goal
+
+pub returns : goal.returns
+returns c = let e = c in (c.judged.ensures, (λ h. separation e.args.group (machine_of e.args.t.now e.args.m.now) (record { words = λ i. omega (arith, c.type_inv.t i); bytes = λ i. omega (arith, c.type_inv.m i) }) (sym c.judged.ensures ∙ h), ap verdict_number c.judged.ensures))

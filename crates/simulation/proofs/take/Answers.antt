@@ -1,0 +1,14 @@
+use Rattle.simulation.proofs.Taking.{step_words}
+use mathlib.Core.Path.{ap, ◌∙◌}
+use mathlib.Core.List.{List}
+use Prim.Native.Nat.{ℕ}
+use Rattle.machine.specs.Step.{step}
+use Rattle.simulation.proofs.take.Goals as goal
+
+pub returns : goal.returns
+returns c = let e = step_words _ c.args.input.now c.args.at c.read_words.ensures in
+    let t = c.args.t.now in
+    let m = c.args.m.now in (
+      c.step.ensures.value ∙ ap (λ (s : List ℕ). (step t m s).answer) e,
+      (c.step.ensures.t_after.0 ∙ ap (λ (s : List ℕ). (step t m s).tables) e, c.step.ensures.t_after.1.0 ∙ ap (λ (s : List ℕ). (step t m s).memory) e),
+    )

@@ -1,0 +1,39 @@
+use native.Mathlib.Omega.{arith}
+use mathlib.Core.Path.{refl, ap}
+use Prim.Native.Nat.{ℕ, ◌+◌, ◌-◌}
+use borrow.Author.Rules.{rules}
+use Rattle.text.proofs.Texts.{counts}
+use Rattle.simulation.proofs.Taking.{no_lines, none_after, lines_next, after_next, flag_few, lines_all, after_all}
+use Rattle.simulation.proofs.take_steps.Goals as goal
+
+pub loop-i-init : goal.loop-i-init
+loop-i-init c = (refl, refl, omega arith, omega arith, omega (arith, c.requires.3), no_lines _ _ _ _, none_after _ _)
+
+pub overflow_mul-i : goal.overflow_mul-i
+overflow_mul-i c = omega (arith, c.loop-i.invariant.2, c.requires.0)
+
+pub put_line-written-requires : goal.put_line-written-requires
+put_line-written-requires c = omega (arith, c.loop-i.invariant.5.kept, c.loop-i.invariant.3, c.requires.1)
+
+pub overflow_add-taken : goal.overflow_add-taken
+overflow_add-taken c = omega (arith, flag_few _ c.take-a.result c.accepted-taken.ensures)
+
+pub loop-i-preserved : goal.loop-i-preserved
+loop-i-preserved c = (
+  search rules,
+  search rules,
+  omega arith,
+  omega (arith, c.put_line-written.ensures.1, c.loop-i.invariant.3),
+  omega (arith, flag_few _ c.take-a.result c.accepted-taken.ensures, c.loop-i.invariant.4),
+  lines_next _ _ _ _ _ _ c.loop-i.invariant.6 _ c.take-a.ensures.value _ c.loop-i.invariant.5 c.put_line-written.ensures.0,
+  after_next _ _ _ _ _ _ c.loop-i.invariant.6 _ c.take-a.ensures.value _ _ _ c.take-a.ensures.t_after.0 c.take-a.ensures.t_after.1 (ap (λ (n : ℕ). c.loop-i.taken + n) c.accepted-taken.ensures),
+)
+
+pub shape_of-out : goal.shape_of-out
+shape_of-out c = c.loop-i.invariant.5.kept
+
+pub returns : goal.returns
+returns c = (
+  (lines_all _ _ c.loop-i.invariant.2 c.loop-i-test.false _ _ _ c.loop-i.invariant.5, counts _ _ (omega (arith, c.loop-i.invariant.3, c.loop-i.invariant.2, c.loop-i.invariant.5.kept, c.requires.0, c.requires.1))),
+  (after_all _ _ c.loop-i.invariant.2 c.loop-i-test.false _ _ c.loop-i.invariant.6, (refl, refl, omega (arith, c.loop-i.invariant.4, c.loop-i.invariant.2))),
+)

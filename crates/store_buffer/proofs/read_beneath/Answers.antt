@@ -1,0 +1,60 @@
+-- `store_buffer::read_beneath` meets its contract.
+-- Assumes nothing.
+use mathlib.Core.Path.{◌≡◌, sym, ap, ◌∙◌}
+use Prim.Native.Nat.{◌-◌, ◌/◌, ◌%◌, ◌^◌, ◌<◌, ◌≤◌}
+use native.Mathlib.Omega.{arith}
+use borrow.Author.Tests.{lt-ltb, le-ltb}
+use lib.Dec.{ltb}
+use Rattle.word.specs.Word.{if◌then◌else◌}
+use Rattle.layout.specs.Layout.{io_ports}
+use Rattle.store_buffer.specs.declared.Read.TheVariants.{There}
+use Rattle.store_buffer.proofs.Access.{aligned_word, aligned_sized}
+use Rattle.store_buffer.proofs.Beneath.{local_range, io_range, reads_local, reads_io, reads_memory}
+use Rattle.store_buffer.proofs.read_beneath.Goals as goal
+
+-- the word of the I/O APIC's port
+io_select : (e : tie.Start) → e.args.a - io_ports < 4
+    → e.args.select / 256 ^ (e.args.a % 4) % 256 ^ e.args.d ≡ (if ltb (e.args.a - io_ports) 4 then e.args.select else e.args.window) / 256 ^ (e.args.a % 4) % 256 ^ e.args.d
+io_select e h = rw (lt-ltb _ _ h)
+
+io_window : (e : tie.Start) → 4 ≤ e.args.a - io_ports
+    → e.args.window / 256 ^ (e.args.a % 4) % 256 ^ e.args.d ≡ (if ltb (e.args.a - io_ports) 4 then e.args.select else e.args.window) / 256 ^ (e.args.a % 4) % 256 ^ e.args.d
+io_window e h = rw (le-ltb _ _ h)
+
+pub overflow_sub-at : goal.overflow_sub-at
+overflow_sub-at c = (local_range _ (sym c.is_local_port.ensures ∙ c.if-is_local_port.true)).0
+
+pub bounds-b-at : goal.bounds-b-at
+bounds-b-at c = let r = local_range c.args.a (sym c.is_local_port.ensures ∙ c.if-is_local_port.true) in omega (arith, r.0, r.1)
+
+pub part-requires : goal.part-requires
+part-requires c = (omega arith, aligned_sized _ _ c.requires.1)
+
+pub returns-then-is_local_port : goal.returns-then-is_local_port
+returns-then-is_local_port c =
+    let e = c in
+    ap There c.part.ensures ∙ sym (reads_local e.args.a e.args.d (omega arith) (aligned_word _ _ e.requires.1) e.args.b.now e.args.memory.now e.args.select e.args.window (sym c.is_local_port.ensures ∙ c.if-is_local_port.true))
+
+pub overflow_sub-at-then-is_io_port : goal.overflow_sub-at-then-is_io_port
+overflow_sub-at-then-is_io_port c = (io_range _ (sym c.is_io_port.ensures ∙ c.if-is_io_port.true)).0
+
+pub part-requires-then-at-lt4 : goal.part-requires-then-at-lt4
+part-requires-then-at-lt4 c = (omega arith, aligned_sized _ _ c.requires.1)
+
+pub returns-then-at-lt4 : goal.returns-then-at-lt4
+returns-then-at-lt4 c =
+    let e = c in
+    ap There (c.part-then-at-lt4.ensures ∙ io_select e c.if-at-lt4.true) ∙ sym (reads_io e.args.a e.args.d (omega arith) (aligned_word _ _ e.requires.1) e.args.b.now e.args.memory.now e.args.select e.args.window (sym c.is_local_port.ensures ∙ c.if-is_local_port.false) (sym c.is_io_port.ensures ∙ c.if-is_io_port.true))
+
+pub part-requires-then-is_io_port : goal.part-requires-then-is_io_port
+part-requires-then-is_io_port c = (omega arith, aligned_sized _ _ c.requires.1)
+
+pub returns-then-is_io_port : goal.returns-then-is_io_port
+returns-then-is_io_port c =
+    let e = c in
+    ap There (c.part-then-is_io_port.ensures ∙ io_window e c.if-at-lt4.false) ∙ sym (reads_io e.args.a e.args.d (omega arith) (aligned_word _ _ e.requires.1) e.args.b.now e.args.memory.now e.args.select e.args.window (sym c.is_local_port.ensures ∙ c.if-is_local_port.false) (sym c.is_io_port.ensures ∙ c.if-is_io_port.true))
+
+pub returns : goal.returns
+returns c =
+    let e = c in
+    c.read_memory.ensures ∙ sym (reads_memory e.args.a e.args.d (omega arith) (aligned_word _ _ e.requires.1) e.args.b.now e.args.memory.now e.args.select e.args.window (sym c.is_local_port.ensures ∙ c.if-is_local_port.false) (sym c.is_io_port.ensures ∙ c.if-is_io_port.false))

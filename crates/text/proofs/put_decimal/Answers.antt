@@ -1,0 +1,16 @@
+use mathlib.Core.Path.{ap}
+use Prim.Native.Nat.{◌^◌, ◌<◌}
+use native.Mathlib.Omega.{arith}
+use lib.ListN.{length}
+use Rattle.text.proofs.Texts.{numbered, reworded}
+use Rattle.text.proofs.put_decimal.Goals as goal
+
+pub put-requires : goal.put-requires
+put-requires c = let h : c.args.n < 2 ^ 64 = omega arith in
+    let d = c.type_inv.digits.ensures in
+    omega (arith, ap length (numbered _ _ h d.1.1 d.1.0))
+
+pub returns : goal.returns
+returns c = let h : c.args.n < 2 ^ 64 = omega arith in
+    let d = c.type_inv.digits.ensures in
+    reworded (numbered _ _ h d.1.1 d.1.0) c.put.ensures
