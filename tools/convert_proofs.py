@@ -119,8 +119,7 @@ def convert(folder, fn, of):
             arm = of['arms'][i]
             if arm:
                 for field, step, path in arm[2]:
-                    if field.endswith('-own'): arms[(norm(step), tuple(path))] = arm[0]
-                    else: arms[(norm(step), tuple(path))] = f'{arm[0]}.{field}'
+                    arms[(norm(step), tuple(path))] = f'{arm[0]}.{field}'
             for v, st in of['typed'][i]: types[norm(st)] = v
         return steps2, arms, clauses, types
     def body(t, goalname, at_lemma=None):
@@ -185,7 +184,7 @@ def convert(folder, fn, of):
                 if j < len(vs): table[p] = f'l.initial.{vs[j]}' if changed and changed[j] else f'l.{vs[j]}'
                 elif j - len(vs) < len(ch): table[p] = f'l.{ch[j - len(vs)]}'
             table.pop('_', None)
-            expr = re.sub(r"[^\s(){}\[\].,;λ]+(?:\.[^\s(){}\[\],;]+)*", lambda q: (lambda w, *r: '.'.join([table[w], *r]) if w in table else q.group(0))(*q.group(0).split('.')), expr)
+            expr = re.sub(r"[^\s(){}\[\].,;λ]+(?:\.[^\s(){}\[\],;]+)*(?! =)(?![^\s(){}\[\],;])", lambda q: (lambda w, *r: '.'.join([table[w], *r]) if w in table else q.group(0))(*q.group(0).split('.')), expr)
             kind = 'invariant' if mi.group(1) == 'invariant' else 'decreases'
             nn = f'{kind}-{new}'
             invariants.append('\n'.join(comments + [f'abbrev pub {nn} : goal.{nn}'] + ([unf] if unf else []) + [f'{nn} l ={expr}']))

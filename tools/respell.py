@@ -98,7 +98,7 @@ AUTO = '#![tactic(auto)]'
 for f in files('/crates/*/src/**/*.rt'):
     s = open(f, encoding='utf-8').read()
     t = s.replace('#[derive(Drop)]', '#[derive(Clone, Copy)]')
-    t = turn(t, dashes=False)
+    t = ''.join(turn(p, dashes=not p.startswith('//')) for p in re.split(r'(//[^\n]*)', t))
     if f.endswith(('/src/lib.rt', '/src/main.rt')) and AUTO not in t:
         lines = t.split('\n')
         i = 0

@@ -135,7 +135,7 @@ pub fn is_accessed(e: u32) -> bool
 
 // The entry with its accessed bit set.
 pub fn set_accessed(e: u32) -> u32
-    ensures { result ≡ x.set-d e }
+    ensures { result ≡ x.set_d e }
 {
     if is_accessed(e) { e } else { e + 0x80 }
 }

@@ -21,4 +21,4 @@ returns-else-fun-eq24 c = rw (← by_rs _ c.in-16.is, ne_eqb _ _ c.if-fun-eq24.f
 
 pub returns-in_default : goal.returns-in_default
 unfolding row_of
-returns-in_default c = simp (ne_eqb _ _ c.in_default.rest.1, ne_eqb _ _ c.in_default.rest.0.1, ne_eqb _ _ c.in_default.rest.0.0.1)
+returns-in_default c = simp (ne_eqb _ _ c.in_default.in_default-own.rest.1, ne_eqb _ _ c.in_default.in_default-own.rest.0.1, ne_eqb _ _ c.in_default.in_default-own.rest.0.0.1)

@@ -24,4 +24,4 @@ unfolding row_of
 returns-in-5 c = by_fun 28 0 c.in-5.is
 
 pub returns-in_default : goal.returns-in_default
-returns-in_default c = other_fun 28 c.args.fun 0 (5 ∷ 4 ∷ 2 ∷ 1 ∷ 0 ∷ []) tt c.in_default.rest
+returns-in_default c = other_fun 28 c.args.fun 0 (5 ∷ 4 ∷ 2 ∷ 1 ∷ 0 ∷ []) tt c.in_default.in_default-own.rest

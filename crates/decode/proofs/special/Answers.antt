@@ -120,4 +120,4 @@ unfolding row_of
 returns-in-63 c = by_fun 0 0 c.in-63.is
 
 pub returns-in_default : goal.returns-in_default
-returns-in_default c = other_fun 0 c.args.fun 0 (63 ∷ 62 ∷ 61 ∷ 60 ∷ 43 ∷ 42 ∷ 39 ∷ 38 ∷ 37 ∷ 36 ∷ 35 ∷ 34 ∷ 33 ∷ 32 ∷ 25 ∷ 24 ∷ 19 ∷ 18 ∷ 17 ∷ 16 ∷ 12 ∷ 9 ∷ 8 ∷ 7 ∷ 6 ∷ 4 ∷ 3 ∷ 2 ∷ 0 ∷ []) tt c.in_default.rest
+returns-in_default c = other_fun 0 c.args.fun 0 (63 ∷ 62 ∷ 61 ∷ 60 ∷ 43 ∷ 42 ∷ 39 ∷ 38 ∷ 37 ∷ 36 ∷ 35 ∷ 34 ∷ 33 ∷ 32 ∷ 25 ∷ 24 ∷ 19 ∷ 18 ∷ 17 ∷ 16 ∷ 12 ∷ 9 ∷ 8 ∷ 7 ∷ 6 ∷ 4 ∷ 3 ∷ 2 ∷ 0 ∷ []) tt c.in_default.in_default-own.rest

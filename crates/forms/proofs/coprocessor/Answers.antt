@@ -24,4 +24,4 @@ returns-else-fun-eq24 c = rw (← by_rs _ c.in-16.is, ne_eqb _ _ c.if-fun-eq24.f
 
 pub returns-in-1-to-4294967295 : goal.returns-in-1-to-4294967295
 unfolding row_of syntax_of form_of
-returns-in-1-to-4294967295 c = let n = c.in-1-to-4294967295.rest in simp (ne_eqb _ _ n.1, ne_eqb _ _ n.0.1, ne_eqb _ _ n.0.0.1)
+returns-in-1-to-4294967295 c = let n = c.in-1-to-4294967295.in-1-to-4294967295-own.rest in simp (ne_eqb _ _ n.1, ne_eqb _ _ n.0.1, ne_eqb _ _ n.0.0.1)

@@ -123,8 +123,8 @@ returns-in-43 c = shown (by_opcode _ c.in-43.is)
 
 pub returns-in-17-to-4294967295 : goal.returns-in-17-to-4294967295
 unfolding row_of syntax_of form_of
-returns-in-17-to-4294967295 c = ⊎_elim (λ e. shown (by_opcode _ e)) (λ e. shown (by_opcode _ e)) c.in-17-to-4294967295.keys27
+returns-in-17-to-4294967295 c = ⊎_elim (λ e. shown (by_opcode _ e)) (λ e. shown (by_opcode _ e)) c.in-17-to-4294967295.in-17-to-4294967295-own.keys27
 
 pub returns-in-17-to-4294967295-2 : goal.returns-in-17-to-4294967295-2
 unfolding row_of syntax_of form_of
-returns-in-17-to-4294967295-2 c = shown (other_opcode _ (43 ∷ 41 ∷ 40 ∷ 37 ∷ 36 ∷ 35 ∷ 33 ∷ 32 ∷ 28 ∷ 16 ∷ 15 ∷ 14 ∷ 13 ∷ 12 ∷ 11 ∷ 10 ∷ 9 ∷ 8 ∷ 7 ∷ 6 ∷ 5 ∷ 4 ∷ 3 ∷ 2 ∷ 1 ∷ 0 ∷ []) tt c.in-17-to-4294967295.rest.0)
+returns-in-17-to-4294967295-2 c = shown (other_opcode _ (43 ∷ 41 ∷ 40 ∷ 37 ∷ 36 ∷ 35 ∷ 33 ∷ 32 ∷ 28 ∷ 16 ∷ 15 ∷ 14 ∷ 13 ∷ 12 ∷ 11 ∷ 10 ∷ 9 ∷ 8 ∷ 7 ∷ 6 ∷ 5 ∷ 4 ∷ 3 ∷ 2 ∷ 1 ∷ 0 ∷ []) tt c.in-17-to-4294967295.in-17-to-4294967295-own.rest.0)

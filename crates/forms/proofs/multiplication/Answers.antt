@@ -28,8 +28,8 @@ returns-in-5 c = shown (by_fun 28 0 c.in-5.is)
 
 pub returns-in-3-to-4294967295 : goal.returns-in-3-to-4294967295
 unfolding row_of syntax_of form_of
-returns-in-3-to-4294967295 c = shown (by_fun 28 0 c.in-3-to-4294967295.keys6)
+returns-in-3-to-4294967295 c = shown (by_fun 28 0 c.in-3-to-4294967295.in-3-to-4294967295-own.keys6)
 
 pub returns-in-3-to-4294967295-2 : goal.returns-in-3-to-4294967295-2
 unfolding row_of syntax_of form_of
-returns-in-3-to-4294967295-2 c = shown (other_fun 28 c.args.fun 0 (5 ∷ 4 ∷ 2 ∷ 1 ∷ 0 ∷ []) tt c.in-3-to-4294967295.rest.0)
+returns-in-3-to-4294967295-2 c = shown (other_fun 28 c.args.fun 0 (5 ∷ 4 ∷ 2 ∷ 1 ∷ 0 ∷ []) tt c.in-3-to-4294967295.in-3-to-4294967295-own.rest.0)

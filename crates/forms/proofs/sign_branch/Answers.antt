@@ -16,4 +16,4 @@ returns-in-1 c = shown (by_rt c.in-1.is)
 
 pub returns-in-2-to-4294967295 : goal.returns-in-2-to-4294967295
 unfolding row_of syntax_of form_of
-returns-in-2-to-4294967295 c = let n = c.in-2-to-4294967295.rest in simp (ne_eqb _ _ n.1, ne_eqb _ _ n.0.1)
+returns-in-2-to-4294967295 c = let n = c.in-2-to-4294967295.in-2-to-4294967295-own.rest in simp (ne_eqb _ _ n.1, ne_eqb _ _ n.0.1)

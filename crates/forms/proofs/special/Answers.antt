@@ -125,8 +125,8 @@ returns-in-63 c = shown (by_fun 0 0 c.in-63.is)
 
 pub returns-in-1-to-4294967295 : goal.returns-in-1-to-4294967295
 unfolding row_of syntax_of form_of
-returns-in-1-to-4294967295 c = ⊎_elim (λ e. shown (by_fun 0 0 e)) (λ e. shown (by_fun 0 0 e)) c.in-1-to-4294967295.keys30
+returns-in-1-to-4294967295 c = ⊎_elim (λ e. shown (by_fun 0 0 e)) (λ e. shown (by_fun 0 0 e)) c.in-1-to-4294967295.in-1-to-4294967295-own.keys30
 
 pub returns-in-1-to-4294967295-2 : goal.returns-in-1-to-4294967295-2
 unfolding row_of syntax_of form_of
-returns-in-1-to-4294967295-2 c = shown (other_fun 0 c.args.fun 0 (63 ∷ 62 ∷ 61 ∷ 60 ∷ 43 ∷ 42 ∷ 39 ∷ 38 ∷ 37 ∷ 36 ∷ 35 ∷ 34 ∷ 33 ∷ 32 ∷ 25 ∷ 24 ∷ 19 ∷ 18 ∷ 17 ∷ 16 ∷ 12 ∷ 9 ∷ 8 ∷ 7 ∷ 6 ∷ 4 ∷ 3 ∷ 2 ∷ 0 ∷ []) tt c.in-1-to-4294967295.rest.0)
+returns-in-1-to-4294967295-2 c = shown (other_fun 0 c.args.fun 0 (63 ∷ 62 ∷ 61 ∷ 60 ∷ 43 ∷ 42 ∷ 39 ∷ 38 ∷ 37 ∷ 36 ∷ 35 ∷ 34 ∷ 33 ∷ 32 ∷ 25 ∷ 24 ∷ 19 ∷ 18 ∷ 17 ∷ 16 ∷ 12 ∷ 9 ∷ 8 ∷ 7 ∷ 6 ∷ 4 ∷ 3 ∷ 2 ∷ 0 ∷ []) tt c.in-1-to-4294967295.in-1-to-4294967295-own.rest.0)

@@ -6,7 +6,7 @@ use Rattle.records.proofs.check.walk_from.Given as goal
 
 abbrev pub invariant-loop-k : goal.invariant-loop-k
 invariant-loop-k l =
-    Finding l.b (record { l.first = l.first; l.second = l.second }) (among_in l.b (record { l.first = l.first; l.second = l.second }) (chain l.fuel l.b l.start)) l.n l.k
+    Finding l.b (record { first = l.first; second = l.second }) (among_in l.b (record { first = l.first; second = l.second }) (chain l.fuel l.b l.start)) l.n l.k
 
 abbrev pub decreases-loop-k : goal.decreases-loop-k
 decreases-loop-k l = l.k

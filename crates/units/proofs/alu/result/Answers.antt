@@ -48,4 +48,4 @@ returns-in-11 c = c.flag-in-11.ensures.0 ∙ by_control 0 (results c.args.a c.ar
 
 pub returns-in_default : goal.returns-in_default
 unfolding alures
-returns-in_default c = unlisted 0 (results c.args.a c.args.b c.args.itype) c.args.con (11 ∷ 10 ∷ 7 ∷ 6 ∷ 5 ∷ 4 ∷ 3 ∷ 2 ∷ 1 ∷ 0 ∷ []) tt c.in_default.rest
+returns-in_default c = unlisted 0 (results c.args.a c.args.b c.args.itype) c.args.con (11 ∷ 10 ∷ 7 ∷ 6 ∷ 5 ∷ 4 ∷ 3 ∷ 2 ∷ 1 ∷ 0 ∷ []) tt c.in_default.in_default-own.rest

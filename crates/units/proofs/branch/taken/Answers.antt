@@ -50,4 +50,4 @@ returns-in-15 c = c.less-in-15.ensures ∙ by_control false (conditions c.args.a
 
 pub returns-in_default : goal.returns-in_default
 unfolding bcres
-returns-in_default c = unlisted false (conditions c.args.a c.args.b) c.args.con (15 ∷ 14 ∷ 13 ∷ 12 ∷ 11 ∷ 10 ∷ 9 ∷ 8 ∷ 3 ∷ 2 ∷ []) tt c.in_default.rest
+returns-in_default c = unlisted false (conditions c.args.a c.args.b) c.args.con (15 ∷ 14 ∷ 13 ∷ 12 ∷ 11 ∷ 10 ∷ 9 ∷ 8 ∷ 3 ∷ 2 ∷ []) tt c.in_default.in_default-own.rest

@@ -32,4 +32,4 @@ returns-in-7 c = c.sub_wide-in-7.ensures ∙ ap (λ (x : ℕ). minus 64 c.args.a
 
 pub returns-in_default : goal.returns-in_default
 unfolding mures
-returns-in_default c = unlisted 0 (products c.args.a c.args.b c.args.acc) c.args.con (7 ∷ 6 ∷ 5 ∷ 4 ∷ 1 ∷ 0 ∷ []) tt c.in_default.rest
+returns-in_default c = unlisted 0 (products c.args.a c.args.b c.args.acc) c.args.con (7 ∷ 6 ∷ 5 ∷ 4 ∷ 1 ∷ 0 ∷ []) tt c.in_default.in_default-own.rest

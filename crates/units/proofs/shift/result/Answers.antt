@@ -18,4 +18,4 @@ returns-in-3 c = c.shift_signed.ensures ∙ by_control 0 (shifts c.args.a c.args
 
 pub returns-in_default : goal.returns-in_default
 unfolding sures
-returns-in_default c = unlisted 0 (shifts c.args.a c.args.i) c.args.sf (3 ∷ 2 ∷ 0 ∷ []) tt c.in_default.rest
+returns-in_default c = unlisted 0 (shifts c.args.a c.args.i) c.args.sf (3 ∷ 2 ∷ 0 ∷ []) tt c.in_default.in_default-own.rest
