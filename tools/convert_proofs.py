@@ -14,6 +14,65 @@ for key, of in lists.items():
     m = re.match(r'Rattle-%s-proofs\.(.*)\.Lts$' % name, key)
     if m: by[m.group(1)] = of
 
+FN = re.compile(r"^([ \t]*)(?:pub(?:\([a-z]+\))? )?(?:unsafe )?(?:extern \"C\" )?fn (\w+)", re.M)
+clause_names = {}
+for c in sorted(os.listdir(os.path.join(crate, '..'))):
+    for folder, _, fs in os.walk(os.path.join(crate, '..', c, 'src')):
+        for f in fs:
+            if not f.endswith('.rt'): continue
+            text = open(os.path.join(folder, f)).read()
+            starts = [(m.start(), m.group(2)) for m in FN.finditer(text)]
+            for (a, n), b in zip(starts, [x for x, _ in starts[1:]] + [len(text)]):
+                head = text[a:b]
+                m = re.search(r"^\s*\{$", head, re.M)
+                head = head[:m.start()] if m else head
+                of_fn = {k: re.findall(r"^\s+%s (\w+) \{" % k, head, re.M) for k in ('requires', 'ensures')}
+                clause_names.setdefault((c, n), []).append(of_fn)
+
+def names_of(path, kind):
+    """The names of a function's clauses of one kind, where it has several."""
+    parts = path.split('::')
+    got = clause_names.get((parts[0], parts[-1]))
+    return got[0][kind] if got else []
+
+def of_pairs(names, path):
+    """Turns a way into nested pairs to the name of a clause: ['1', '0', 'x'] of three names is [second, 'x']."""
+    i, path = 0, list(path)
+    while i < len(names) - 1 and path:
+        if path[0] == '1': i += 1; path.pop(0)
+        elif path[0] == '0': path.pop(0); return [names[i]] + path
+        else: return None
+    return [names[i]] + path if i == len(names) - 1 else None
+
+def elements(t):
+    """The elements of a tuple's text, or None."""
+    t = t.strip()
+    if not (t.startswith('(') and t.endswith(')')): return None
+    depth, out, cur = 0, [], ''
+    for k, ch in enumerate(t):
+        if ch in '([{': depth += 1
+        if ch in ')]}': depth -= 1
+        if depth == 0 and k < len(t) - 1: return None
+        if depth == 1 and ch == ',': out.append(cur); cur = ''
+        elif not (k == 0 or k == len(t) - 1): cur += ch
+    out.append(cur)
+    return [o.strip() for o in out]
+
+def as_record(names, t):
+    """Turns nested pairs to a record with these names, where the text shows them."""
+    m = re.match(r"(\s*(?:let .* in\s+)?)(.*)$", t, re.S)
+    lead, rest = m.group(1), m.group(2).strip()
+    got = []
+    while len(got) < len(names) - 1:
+        es = elements(rest)
+        if not es: return None
+        if len(es) == len(names) - len(got): got += es; break
+        if len(es) != 2: return None
+        got.append(es[0]); rest = es[1]
+    if len(got) == len(names) - 1: got.append(rest)
+    if len(got) != len(names): return None
+    return lead + 'record { ' + '; '.join(f'{n} = {e}' for n, e in zip(names, got)) + ' }'
+
 def norm(s):
     return s.replace('_', '-').replace("·", "-")
 
@@ -99,6 +158,10 @@ def convert(folder, fn, of):
             if cand in needs: return needs[cand]
         return None
     used_places = set()
+    own_requires, own_ensures = names_of(name + '::' + fn, 'requires'), names_of(name + '::' + fn, 'ensures')
+    if '.' in fn:
+        own_requires, own_ensures = names_of(name + '::' + fn.split('.')[-1], 'requires'), names_of(name + '::' + fn.split('.')[-1], 'ensures')
+    callees = {q.split('::')[-1]: q for q in of['params']}
     parent = {pl[0]: pl[1] for pl in of['places']}
     index = {pl[0]: i for i, pl in enumerate(of['places'])}
     place_of = {}
@@ -112,10 +175,12 @@ def convert(folder, fn, of):
         chain.reverse()
         steps2, arms, clauses, types = {}, {}, {}, {}
         for i in chain:
+            callee = of['places'][i][3]
+            if callee and len(names_of(callee, 'ensures')) > 1: clauses[norm(of['places'][i][2][0])] = names_of(callee, 'ensures')
             pl = of['places'][i]
             if pl[2][0]:
                 steps2[norm(pl[2][0])] = pl[2][1]
-                if of['clauses'][i]: clauses[norm(pl[2][0])] = of['clauses'][i]['fields']
+                if of['clauses'][i] and norm(pl[2][0]) not in clauses: clauses[norm(pl[2][0])] = of['clauses'][i]['fields']
             arm = of['arms'][i]
             if arm:
                 for field, step, path in arm[2]:
@@ -145,8 +210,10 @@ def convert(folder, fn, of):
             if k in clauses and len(parts) > 1 and parts[1] == 'ensures':
                 f = clauses[k]
                 if len(f) == 1: parts[1:2] = ['ensures', f[0]]
-                elif len(parts) > 2 and parts[2].isdigit() and int(parts[2]) < len(f): parts[2] = f[int(parts[2])]
-            if k in steps2: parts[0] = steps2[k]
+                elif len(parts) > 2 and of_pairs(f, parts[2:]): parts[2:] = of_pairs(f, parts[2:])
+            if parts[0] == 'requires' and len(own_requires) > 1 and of_pairs(own_requires, parts[1:]):
+                parts[1:] = of_pairs(own_requires, parts[1:])
+            elif k in steps2: parts[0] = steps2[k]
             elif k in steps: parts[0] = steps[k]; notes.append(f'off the way {goalname}: {parts[0]}')
             elif parts[0] not in ('args', 'requires', 'ranges', 'well_formed', 'lifetimes', 'type_inv'):
                 notes.append(f'unknown step {parts[0]} in {goalname}')
@@ -202,6 +269,18 @@ def convert(folder, fn, of):
             if TRIVIAL.match(expr.strip()) and not unf: continue
             if norm(mn.group(1)).startswith('same-length') and 'auto' in expr: continue
             e = body(expr, new)
+            mc = re.match(r'(.*?)-requires(-\d+)?$', norm(mn.group(1)))
+            if mc:
+                callee = next((callees[q] for q in callees if norm(q) == mc.group(1)), None)
+                ns = names_of(callee, 'requires') if callee else []
+                if len(ns) > 1:
+                    r = as_record(ns, e)
+                    if r: e = ' ' + r
+                    else: notes.append(f'{new}: of {ns}, by hand')
+            elif norm(mn.group(1)).startswith('returns') and len(own_ensures) > 1:
+                r = as_record(own_ensures, e)
+                if r: e = ' ' + r
+                else: notes.append(f'{new}: of {own_ensures}, by hand')
             answers.append('\n'.join(comments + [f'pub {new} : goal.{new}'] + ([unf] if unf else []) + [f'{new} c ={e}']))
             continue
         mh = re.search(r'\(c : tie\.([^\s)]+)[^)]*\)', ty)

@@ -10,11 +10,11 @@ use Rattle.machine.proofs.Taking.{tried_accepted, tried_refused}
 use Rattle.machine.proofs.by_plan.Goals as goal
 
 pub commit-requires : goal.commit-requires
-commit-requires c = rw c.core_of-k.ensures (let f = planned_asks (cores_of c.args.t.now) (length c.args.m.now) c.args.t.now (step_doable c.args.t.now c.args.m.now c.requires.0 (λ i. omega (arith, c.type_inv.t i)) (λ i. omega (arith, c.type_inv.m i)) c.args.p c.requires.1.0) _ _ (sym c.plan-plan.ensures) in (has c.args.t.now (length c.args.m.now) c.requires.0 _ f.0, (chains c.args.t.now (length c.args.m.now) c.requires.0 _ f.0, (f.2, f.1))))
+commit-requires c = rw c.core_of-k.ensures (let f = planned_asks (cores_of c.args.t.now) (length c.args.m.now) c.args.t.now (step_doable c.args.t.now c.args.m.now c.requires.m_value (λ i. omega (arith, c.type_inv.t i)) (λ i. omega (arith, c.type_inv.m i)) c.args.p c.requires.p_value) _ _ (sym c.plan-plan.ensures) in (has c.args.t.now (length c.args.m.now) c.requires.m_value _ f.0, (chains c.args.t.now (length c.args.m.now) c.requires.m_value _ f.0, (f.2, f.1))))
 
 pub returns-then-is_accepted : goal.returns-then-is_accepted
 unfolding tables_after memory_after
-returns-then-is_accepted c = let x = tried_accepted c.args.t.now c.args.m.now (by_step c.args.t.now c.args.m.now c.args.p) _ (sym c.is_accepted.ensures ∙ c.if-is_accepted.true) (ap answer_of c.plan-plan.ensures) in (x.0, (rw (c.commit.ensures.t_after, c.core_of-k.ensures) (ap (λ a. tables_after a c.args.t.now) c.plan-plan.ensures ∙ x.1), rw c.commit.ensures.m_after (ap (λ a. memory_after a c.args.m.now) c.plan-plan.ensures ∙ x.2)))
+returns-then-is_accepted c = let x = tried_accepted c.args.t.now c.args.m.now (by_step c.args.t.now c.args.m.now c.args.p) _ (sym c.is_accepted.ensures ∙ c.if-is_accepted.true) (ap answer_of c.plan-plan.ensures) in record { value = x.0; t_after = rw (c.commit.ensures.t_after, c.core_of-k.ensures) (ap (λ a. tables_after a c.args.t.now) c.plan-plan.ensures ∙ x.1); m_after = rw c.commit.ensures.m_after (ap (λ a. memory_after a c.args.m.now) c.plan-plan.ensures ∙ x.2) }
 
 pub returns-else-is_accepted : goal.returns-else-is_accepted
-returns-else-is_accepted c = let x = tried_refused c.args.t.now c.args.m.now (by_step c.args.t.now c.args.m.now c.args.p) _ (sym c.is_accepted.ensures ∙ c.if-is_accepted.false) (ap answer_of c.plan-plan.ensures) in (x.0, (x.1, x.2))
+returns-else-is_accepted c = let x = tried_refused c.args.t.now c.args.m.now (by_step c.args.t.now c.args.m.now c.args.p) _ (sym c.is_accepted.ensures ∙ c.if-is_accepted.false) (ap answer_of c.plan-plan.ensures) in record { value = x.0; t_after = x.1; m_after = x.2 }

@@ -5,7 +5,7 @@ use Rattle.steps.specs.Answers.{answer_number}
 use Rattle.machine.proofs.step.Goals as goal
 
 pub returns-then-not-sound : goal.returns-then-not-sound
-returns-then-not-sound c = let x = not_sound c.args.t.now c.args.m.now c.args.s.now (sym c.sound.ensures ∙ not-true _ c.if-not-sound.true) in (x.0, (x.1, (x.2, ap answer_number x.0)))
+returns-then-not-sound c = let x = not_sound c.args.t.now c.args.m.now c.args.s.now (sym c.sound.ensures ∙ not-true _ c.if-not-sound.true) in record { value = x.0; t_after = x.1; m_after = x.2; result_value = ap answer_number x.0 }
 
 pub take-r-requires : goal.take-r-requires
 take-r-requires c = sym c.sound.ensures ∙ not-false _ c.if-not-sound.false

@@ -8,4 +8,4 @@ pub verdict_number-requires : goal.verdict_number-requires
 verdict_number-requires c = let e = c in rw c.apart.ensures.value (verdict_fits e.args.group e.args.tables.now e.args.memory.now)
 
 pub returns : goal.returns
-returns c = (c.verdict_number.ensures ∙ c.apart.ensures.promised.1, λ h. c.apart.ensures.promised.0 (yes_number _ (sym c.verdict_number.ensures ∙ h)))
+returns c = record { value = c.verdict_number.ensures ∙ c.apart.ensures.result_value; promised = λ h. c.apart.ensures.promised (yes_number _ (sym c.verdict_number.ensures ∙ h)) }

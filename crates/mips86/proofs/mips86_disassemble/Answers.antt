@@ -13,4 +13,4 @@ disassembled_number-requires c =
 pub returns : goal.returns
 returns c =
     let r = c.disassemble.ensures in
-    (c.disassembled_number.ensures ∙ ap (λ a. disassembled_number a) r.0, r.1.0)
+    record { value = c.disassembled_number.ensures ∙ ap (λ a. disassembled_number a) r.0; text_after = r.1.0 }

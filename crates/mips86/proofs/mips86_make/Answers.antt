@@ -5,4 +5,4 @@ use Rattle.numbers.specs.Numbers.{refusal_or0}
 use Rattle.mips86.proofs.mips86_make.Goals as goal
 
 pub returns : goal.returns
-returns c = (c.made_number.ensures ∙ ap refusal_or0 c.make.ensures.result_value, c.make.ensures.tables_after)
+returns c = record { value = c.made_number.ensures ∙ ap refusal_or0 c.make.ensures.result_value; tables_after = c.make.ensures.tables_after }

@@ -8,4 +8,4 @@ pub reached_number-requires : goal.reached_number-requires
 reached_number-requires c = let e = c in rw c.reach-r.ensures.value (reached_fits e.args.group e.args.tables.now e.args.memory.now e.args.map.now)
 
 pub returns : goal.returns
-returns c = (c.reached_number.ensures ∙ c.reach-r.ensures.map_after.1.0, (c.beyond_number.ensures ∙ c.reach-r.ensures.map_after.1.1, c.reach-r.ensures.map_after.0))
+returns c = record { value = c.reached_number.ensures ∙ c.reach-r.ensures.result_value; beyond_after = c.beyond_number.ensures ∙ c.reach-r.ensures.result_value_2; map_after = c.reach-r.ensures.map_after }

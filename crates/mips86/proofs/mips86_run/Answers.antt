@@ -8,4 +8,4 @@ pub stop_number-requires : goal.stop_number-requires
 stop_number-requires c = rw c.run-r.ensures.same_why (stop_fits c.args.tables.now c.args.memory.now c.args.schedule.now c.args.limit)
 
 pub returns : goal.returns
-returns c = (c.stop_number.ensures ∙ c.run-r.ensures.same_number, (c.run-r.ensures.same_accepted, (c.run-r.ensures.same_tables, c.run-r.ensures.same_memory)))
+returns c = record { value = c.stop_number.ensures ∙ c.run-r.ensures.same_number; accepted_after = c.run-r.ensures.same_accepted; tables_after = c.run-r.ensures.same_tables; memory_after = c.run-r.ensures.same_memory }

@@ -8,4 +8,4 @@ pub answer_number-requires : goal.answer_number-requires
 answer_number-requires c = rw c.step.ensures.value (answer_fits c.args.tables.now c.args.memory.now c.args.step.now)
 
 pub returns : goal.returns
-returns c = (c.answer_number.ensures ∙ c.step.ensures.t_after.1.1, (c.step.ensures.t_after.0, c.step.ensures.t_after.1.0))
+returns c = record { value = c.answer_number.ensures ∙ c.step.ensures.result_value; tables_after = c.step.ensures.t_after; memory_after = c.step.ensures.m_after }

@@ -10,19 +10,19 @@ use Rattle.reach.proofs.Marking.{marked_long}
 use Rattle.reach.proofs.fill.Goals as goal
 
 pub bounds-t-0 : goal.bounds-t-0
-bounds-t-0 c = omega (arith, (header _ _ c.requires.0).long)
+bounds-t-0 c = omega (arith, (header _ _ c.requires.m_value).long)
 
 pub bounds-t-1 : goal.bounds-t-1
-bounds-t-1 c = omega (arith, (header _ _ c.requires.0).long)
+bounds-t-1 c = omega (arith, (header _ _ c.requires.m_value).long)
 
 pub mark_cores-named-requires : goal.mark_cores-named-requires
-mark_cores-named-requires c = let e = c in let h = header _ _ e.requires.0 in ((zeros_long, h.few_pages, h.few_cores, omega (arith, h.long)), core_linked _ e.args.m.now e.requires.0)
+mark_cores-named-requires c = let e = c in let h = header _ _ e.requires.0 in record { s_len = (zeros_long, h.few_pages, h.few_cores, omega (arith, h.long)); by_index = core_linked _ e.args.m.now e.requires.0 }
 
 pub pass-seconds-requires : goal.pass-seconds-requires
-pass-seconds-requires c = let h = header _ _ c.requires.0 in ((marked_long c.mark_cores-named.ensures ∙ zeros_long, h.few_pages, omega arith), h.bytes)
+pass-seconds-requires c = let h = header _ _ c.requires.m_value in record { s_len = (marked_long c.mark_cores-named.ensures ∙ zeros_long, h.few_pages, omega arith); m_len = h.bytes }
 
 pub pass-datas-requires : goal.pass-datas-requires
-pass-datas-requires c = let h = header _ _ c.requires.0 in ((marked_long c.pass-seconds.ensures ∙ marked_long c.mark_cores-named.ensures ∙ zeros_long, h.few_pages, omega arith), h.bytes)
+pass-datas-requires c = let h = header _ _ c.requires.m_value in record { s_len = (marked_long c.pass-seconds.ensures ∙ marked_long c.mark_cores-named.ensures ∙ zeros_long, h.few_pages, omega arith); m_len = h.bytes }
 
 pub write_map-requires : goal.write_map-requires
 write_map-requires c = let e = c in let h = header _ _ e.requires.0 in (marked_long c.pass-datas.ensures ∙ marked_long c.pass-seconds.ensures ∙ marked_long c.mark_cores-named.ensures ∙ zeros_long, h.few_pages, e.requires.1)

@@ -29,7 +29,7 @@ pub returns-then-not-is_group : goal.returns-then-not-is_group
 returns-then-not-is_group c = no_group _ _ _ _ (sym c.sound.ensures ∙ not-false _ c.if-not-sound.false) c.if-map-t.false _ c.is_group.ensures (not-true _ c.if-not-is_group.true)
 
 pub fill-requires : goal.fill-requires
-fill-requires c = ((sym c.sound.ensures ∙ not-false _ c.if-not-sound.false), c.if-map-t.false)
+fill-requires c = record { m_value = (sym c.sound.ensures ∙ not-false _ c.if-not-sound.false); map_len = c.if-map-t.false }
 
 pub returns-then-fill : goal.returns-then-fill
 returns-then-fill c = strayed _ _ _ _ (sym c.sound.ensures ∙ not-false _ c.if-not-sound.false) c.if-map-t.false _ c.is_group.ensures (not-false _ c.if-not-is_group.false) _ c.fill.ensures.value _ c.fill.ensures.map_after c.if-fill.true

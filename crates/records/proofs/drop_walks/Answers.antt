@@ -4,12 +4,12 @@ use Rattle.records.proofs.Sweeping.{sweep_start, sweep_next_hit, sweep_next_miss
 use Rattle.records.proofs.drop_walks.Goals as goal
 
 pub loop-n-init : goal.loop-n-init
-loop-n-init c = sweep_start _ _ c.requires.0 c.requires.1
+loop-n-init c = sweep_start _ _ c.requires.b_len c.requires.b_value
 
 pub release-requires : goal.release-requires
 release-requires c =
     let S = c.loop-n.invariant in
-    (S.good.three.long, (S.in_block, omega (arith, S.now_at, S.below)))
+    record { b_len = S.good.three.long; at_bound = S.in_block; at_bound_2 = omega (arith, S.now_at, S.below) }
 
 pub loop-n-smaller-then-goes : goal.loop-n-smaller-then-goes
 loop-n-smaller-then-goes c =
@@ -34,7 +34,7 @@ loop-n-preserved c =
     (sym c.goes.ensures ∙ c.if-goes.false)
 
 pub shape_of-b : goal.shape_of-b
-shape_of-b c = omega (arith, c.loop-n.invariant.good.three.long, c.requires.0)
+shape_of-b c = omega (arith, c.loop-n.invariant.good.three.long, c.requires.b_len)
 
 pub returns : goal.returns
 returns c = sweep_end c.loop-n.invariant c.loop-n-test.false

@@ -3,7 +3,7 @@ use Rattle.records.proofs.Along.{along_start, along_next, along_last, along_less
 use Rattle.records.proofs.stores_end.Goals as goal
 
 pub loop-n-init : goal.loop-n-init
-loop-n-init c = along_start _ store_head _ (store_chain _ c.requires.0 c.requires.1)
+loop-n-init c = along_start _ store_head _ (store_chain _ c.requires.b_len c.requires.b_value)
 
 pub loop-n-smaller : goal.loop-n-smaller
 loop-n-smaller c = along_less c.loop-n.invariant c.loop-n-test.true

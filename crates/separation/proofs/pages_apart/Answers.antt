@@ -25,7 +25,7 @@ pub slice_bounds-maps_apart-end-2 : goal.slice_bounds-maps_apart-end-2
 slice_bounds-maps_apart-end-2 c = sym (room _ (header _ _ c.requires).few_pages)
 
 pub maps_apart-requires : goal.maps_apart-requires
-maps_apart-requires c = let h = header _ _ c.requires in (c.requires, (room _ h.few_pages, room _ h.few_pages))
+maps_apart-requires c = let h = header _ _ c.requires in record { m_value = c.requires; own_len = (room _ h.few_pages, room _ h.few_pages) }
 
 pub returns : goal.returns
 returns c = c.maps_apart.ensures

@@ -26,14 +26,11 @@ loop-i-preserved c = (
   omega (arith, c.put_line-written.ensures.1, c.loop-i.invariant.3),
   omega (arith, flag_few _ c.take-a.result c.accepted-taken.ensures, c.loop-i.invariant.4),
   lines_next _ _ _ _ _ _ c.loop-i.invariant.6 _ c.take-a.ensures.value _ c.loop-i.invariant.5 c.put_line-written.ensures.0,
-  after_next _ _ _ _ _ _ c.loop-i.invariant.6 _ c.take-a.ensures.value _ _ _ c.take-a.ensures.t_after.0 c.take-a.ensures.t_after.1 (ap (λ (n : ℕ). c.loop-i.taken + n) c.accepted-taken.ensures),
+  after_next _ _ _ _ _ _ c.loop-i.invariant.6 _ c.take-a.ensures.value _ _ _ c.take-a.ensures.t_after c.take-a.ensures.m_after (ap (λ (n : ℕ). c.loop-i.taken + n) c.accepted-taken.ensures),
 )
 
 pub shape_of-out : goal.shape_of-out
 shape_of-out c = c.loop-i.invariant.5.kept
 
 pub returns : goal.returns
-returns c = (
-  (lines_all _ _ c.loop-i.invariant.2 c.loop-i-test.false _ _ _ c.loop-i.invariant.5, counts _ _ (omega (arith, c.loop-i.invariant.3, c.loop-i.invariant.2, c.loop-i.invariant.5.kept, c.requires.0, c.requires.1))),
-  (after_all _ _ c.loop-i.invariant.2 c.loop-i-test.false _ _ c.loop-i.invariant.6, (refl, refl, omega (arith, c.loop-i.invariant.4, c.loop-i.invariant.2))),
-)
+returns c =  record { put = (lines_all _ _ c.loop-i.invariant.2 c.loop-i-test.false _ _ _ c.loop-i.invariant.5, counts _ _ (omega (arith, c.loop-i.invariant.3, c.loop-i.invariant.2, c.loop-i.invariant.5.kept, c.requires.0, c.requires.1))); accepted_after = (after_all _ _ c.loop-i.invariant.2 c.loop-i-test.false _ _ c.loop-i.invariant.6, (refl, refl, omega (arith, c.loop-i.invariant.4, c.loop-i.invariant.2))); steps_value =  }

@@ -17,7 +17,7 @@ ports e = ports_of e.args.b.now e.args.select e.args.window
 pub find-f-requires : goal.find-f-requires
 find-f-requires c =
     let e = c in
-    (e.requires.0, ((parts_of _ _ e.requires.1.0).0, (aligned_word _ _ e.requires.1.1).some))
+    record { b_len = e.requires.0; b_value = (parts_of _ _ e.requires.1.0).0; d_nonzero = (aligned_word _ _ e.requires.1.1).some }
 
 pub forwarded-requires : goal.forwarded-requires
 forwarded-requires c =
@@ -25,7 +25,7 @@ forwarded-requires c =
     let f = sym c.in-One.is ∙ c.find-f.ensures in
     let w = aligned_word _ _ e.requires.1.1 in
     let words : (m : ℕ) → get_or e.args.b.now m 0 < 2 ^ 32 = λ m. omega (arith, c.type_inv.b m) in
-    (e.requires.0, (one_low e.args.b.now e.args.a e.args.d (ports e) e.args.memory.now (omega arith) w e.requires.0 e.requires.1.0 words _ _ f, (one_near e.args.b.now e.args.a e.args.d (ports e) e.args.memory.now (omega arith) w e.requires.0 e.requires.1.0 words _ _ f, aligned_sized _ _ e.requires.1.1)))
+    record { b_len = e.requires.0; number_bound = one_low e.args.b.now e.args.a e.args.d (ports e) e.args.memory.now (omega arith) w e.requires.0 e.requires.1.0 words _ _ f; number_bound_2 = one_near e.args.b.now e.args.a e.args.d (ports e) e.args.memory.now (omega arith) w e.requires.0 e.requires.1.0 words _ _ f; d_value = aligned_sized _ _ e.requires.1.1 }
 
 pub returns-in-There : goal.returns-in-There
 returns-in-There c =

@@ -11,7 +11,7 @@ use Rattle.store_buffer.proofs.oldest_store.Goals.{Else-n-eq0}
 
 -- the record is below 32
 low : (c : Else-n-eq0) → get_or c.args.b.now store_head 0 < 32
-low c = (head_of _ c.requires.0 c.requires.1).0
+low c = (head_of _ c.requires.b_len c.requires.b_value).0
 
 pub returns-then-n-eq0 : goal.returns-then-n-eq0
 returns-then-n-eq0 c = oldest_none _ c.if-n-eq0.true

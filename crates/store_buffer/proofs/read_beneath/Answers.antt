@@ -28,7 +28,7 @@ pub bounds-b-at : goal.bounds-b-at
 bounds-b-at c = let r = local_range c.args.a (sym c.is_local_port.ensures ∙ c.if-is_local_port.true) in omega (arith, r.0, r.1)
 
 pub part-requires : goal.part-requires
-part-requires c = (omega arith, aligned_sized _ _ c.requires.1)
+part-requires c = record { k_bound = omega arith; d_value = aligned_sized _ _ c.requires.d_value }
 
 pub returns-then-is_local_port : goal.returns-then-is_local_port
 returns-then-is_local_port c =
@@ -39,7 +39,7 @@ pub overflow_sub-at-then-is_io_port : goal.overflow_sub-at-then-is_io_port
 overflow_sub-at-then-is_io_port c = (io_range _ (sym c.is_io_port.ensures ∙ c.if-is_io_port.true)).0
 
 pub part-requires-then-at-lt4 : goal.part-requires-then-at-lt4
-part-requires-then-at-lt4 c = (omega arith, aligned_sized _ _ c.requires.1)
+part-requires-then-at-lt4 c = record { k_bound = omega arith; d_value = aligned_sized _ _ c.requires.d_value }
 
 pub returns-then-at-lt4 : goal.returns-then-at-lt4
 returns-then-at-lt4 c =
@@ -47,7 +47,7 @@ returns-then-at-lt4 c =
     ap There (c.part-then-at-lt4.ensures ∙ io_select e c.if-at-lt4.true) ∙ sym (reads_io e.args.a e.args.d (omega arith) (aligned_word _ _ e.requires.1) e.args.b.now e.args.memory.now e.args.select e.args.window (sym c.is_local_port.ensures ∙ c.if-is_local_port.false) (sym c.is_io_port.ensures ∙ c.if-is_io_port.true))
 
 pub part-requires-then-is_io_port : goal.part-requires-then-is_io_port
-part-requires-then-is_io_port c = (omega arith, aligned_sized _ _ c.requires.1)
+part-requires-then-is_io_port c = record { k_bound = omega arith; d_value = aligned_sized _ _ c.requires.d_value }
 
 pub returns-then-is_io_port : goal.returns-then-is_io_port
 returns-then-is_io_port c =

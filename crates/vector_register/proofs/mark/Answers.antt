@@ -8,7 +8,7 @@ use Rattle.vector_register.proofs.mark.Goals as goal
 pub put_vector-requires : goal.put_vector-requires
 put_vector-requires c =
     let e = c in
-    (e.requires.0, (ltb-true _ _ (ap is_vector (sym c.in-Vector.is) ∙ e.requires.1.0), e.requires.1.1))
+    record { place_bound = e.requires.0; v_bound = (ltb-true _ _ (ap is_vector (sym c.in-Vector.is) ∙ e.requires.1.0), e.requires.1.1) }
 
 pub returns-in-Vector : goal.returns-in-Vector
 returns-in-Vector c =

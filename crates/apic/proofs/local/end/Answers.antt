@@ -7,12 +7,12 @@ use Rattle.vector_register.proofs.Least.{lowest_vector}
 use Rattle.apic.proofs.local.end.Goals as goal
 
 pub mark-requires : goal.mark-requires
-mark-requires c = ((omega arith, simp length-set (omega arith)), (lowest_vector c.args.b.now isr c.lowest-f.ensures, omega arith))
+mark-requires c = record { place_bound = (omega arith, simp length-set (omega arith)); f_value = (lowest_vector c.args.b.now isr c.lowest-f.ensures, omega arith) }
 
 pub mark-requires-2 : goal.mark-requires-2
 mark-requires-2 c =
     let a = c.args in
-    ((omega arith, omega (arith, length-set a.b.now 75 a.v)), (lowest_vector a.b.now isr c.lowest-f.ensures, omega arith))
+    record { place_bound = (omega arith, omega (arith, length-set a.b.now 75 a.v)); f_value = (lowest_vector a.b.now isr c.lowest-f.ensures, omega arith) }
 
 pub shape_of-b : goal.shape_of-b
 shape_of-b c =

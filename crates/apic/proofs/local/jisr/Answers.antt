@@ -6,10 +6,10 @@ use Rattle.vector_register.proofs.Least.{lowest_vector}
 use Rattle.apic.proofs.local.jisr.Goals as goal
 
 pub mark-requires : goal.mark-requires
-mark-requires c = ((omega arith, omega arith), (lowest_vector c.args.b.now irr c.lowest-f.ensures, omega arith))
+mark-requires c = record { place_bound = (omega arith, omega arith); f_value = (lowest_vector c.args.b.now irr c.lowest-f.ensures, omega arith) }
 
 pub mark-requires-2 : goal.mark-requires-2
-mark-requires-2 c = ((omega arith, omega arith), (lowest_vector c.args.b.now irr c.lowest-f.ensures, omega arith))
+mark-requires-2 c = record { place_bound = (omega arith, omega arith); f_value = (lowest_vector c.args.b.now irr c.lowest-f.ensures, omega arith) }
 
 pub returns : goal.returns
 unfolding on_jisr

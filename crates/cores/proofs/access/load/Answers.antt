@@ -2,7 +2,7 @@ use mathlib.Core.Path.{refl}
 use Rattle.cores.proofs.access.load.Goals as goal
 
 pub load-l-requires : goal.load-l-requires
-load-l-requires c = (c.requires.0.long, (c.requires.0.records, rw c.width.ensures c.requires.1))
+load-l-requires c = record { b_len = c.requires.sound_beside.long; b_value = c.requires.sound_beside.records; d_value = rw c.width.ensures c.requires.instruction_value }
 
 pub returns-in-Value : goal.returns-in-Value
 returns-in-Value c = rw (c.finished.ensures, ← c.width.ensures, ← c.load-l.ensures, c.in-Value.is) refl

@@ -8,10 +8,10 @@ pub returns-then-not-ends : goal.returns-then-not-ends
 returns-then-not-ends c = c.refused.ensures ∙ data_incomplete _ _ _ _ _ _ c.ends.result (rw (← c.user-user.ensures) c.ends.ensures) (not-true _ c.if-not-ends.true)
 
 pub physical-a-requires : goal.physical-a-requires
-physical-a-requires c = rw c.user-user.ensures c.requires.1.1.0
+physical-a-requires c = rw c.user-user.ensures c.requires.second_value.0
 
 pub at_address-requires : goal.at_address-requires
-at_address-requires c = (c.requires.0, (c.requires.1.0, (rw (c.physical-a.ensures, c.address.ensures) (same_offset c.user-user.result c.args.walk.second _), c.requires.1.1.1)))
+at_address-requires c = record { sound_beside = c.requires.sound_beside; a_value = (c.requires.b_value, (rw (c.physical-a.ensures, c.address.ensures) (same_offset c.user-user.result c.args.walk.second _), c.requires.second_value.1)) }
 
 pub returns : goal.returns
 returns c = c.at_address.ensures ∙ (rw (c.physical-a.ensures, c.address.ensures, c.user-user.ensures) (data_complete _ _ _ _ _ _ c.ends.result (rw (← c.user-user.ensures) c.ends.ensures) (not-false _ c.if-not-ends.false)))

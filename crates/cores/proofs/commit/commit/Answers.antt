@@ -12,7 +12,7 @@ on_block-requires c =
     let a = s.before.before.before.args in
     let p = s.before.before.before.requires in
     let q = part a.t.now a.k s.block_at_lem.result s.block_at_lem.ensures in
-    (ap length q ∙ block_long a.t.now a.k p.0, (ap linked q ∙ p.1.0, ap (ready a.p) q ∙ p.1.1.1))
+    record { b_len = ap length q ∙ block_long a.t.now a.k p.0; b_value = ap linked q ∙ p.1.0; b_value_2 = ap (ready a.p) q ∙ p.1.1.1 }
 
 pub returns : goal.returns
 unfolding tables_by_plan
@@ -21,4 +21,4 @@ returns c =
     let s = i.before.before in
     let a = s.before.before.before.args in
     let d = c.beyond_block.ensures in
-    (d.0 ∙ ap (header_after a.p.write) (part_done a.t.now a.k s.block_at_lem.result s.block_at_lem.ensures (block_after a.p) i.on_block_lem.new.0 i.on_block_lem.ensures), d.1)
+    record { t_after = d.0 ∙ ap (header_after a.p.write) (part_done a.t.now a.k s.block_at_lem.result s.block_at_lem.ensures (block_after a.p) i.on_block_lem.new.0 i.on_block_lem.ensures); m_after = d.1 }

@@ -5,7 +5,7 @@ use Rattle.cores.proofs.Doing.{port_fits}
 use Rattle.cores.proofs.commit.local_port.Goals as goal
 
 pub write-requires : goal.write-requires
-write-requires c = (search rules, port_fits _ _ c.in-LocalPort.is c.requires.1)
+write-requires c = (search rules, port_fits _ _ c.in-LocalPort.is c.requires.write_value)
 
 pub returns-in-Nothing : goal.returns-in-Nothing
 unfolding port_after

@@ -4,13 +4,13 @@ use Rattle.cores.proofs.Doing.{core_done, buffer_done, walks_done, port_ready_le
 use Rattle.cores.proofs.commit.on_block.Goals as goal
 
 pub buffer-requires : goal.buffer-requires
-buffer-requires c = rw c.core.ensures (core_done c.args.p c.args.b.now c.requires.1.1 c.requires.0 c.requires.1.0)
+buffer-requires c = rw c.core.ensures (core_done c.args.p c.args.b.now c.requires.b_value_2 c.requires.b_len c.requires.b_value)
 
 pub walks-requires : goal.walks-requires
-walks-requires c = rw (c.buffer.ensures, c.core.ensures) (buffer_done c.args.p c.args.b.now c.requires.1.1 c.requires.0 c.requires.1.0)
+walks-requires c = rw (c.buffer.ensures, c.core.ensures) (buffer_done c.args.p c.args.b.now c.requires.b_value_2 c.requires.b_len c.requires.b_value)
 
 pub local_port-requires : goal.local_port-requires
-local_port-requires c = (rw (c.walks.ensures, c.buffer.ensures, c.core.ensures) (walks_done c.args.p c.args.b.now c.requires.1.1 c.requires.0 c.requires.1.0), port_ready_lem c.args.p c.args.b.now c.requires.1.1)
+local_port-requires c = record { b_len = rw (c.walks.ensures, c.buffer.ensures, c.core.ensures) (walks_done c.args.p c.args.b.now c.requires.b_value_2 c.requires.b_len c.requires.b_value); write_value = port_ready_lem c.args.p c.args.b.now c.requires.b_value_2 }
 
 pub returns : goal.returns
 unfolding block_after

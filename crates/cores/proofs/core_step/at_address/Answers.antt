@@ -7,7 +7,7 @@ pub returns-then-is_port : goal.returns-then-is_port
 returns-then-is_port c = c.refused.ensures ∙ fetch_port _ _ _ _ _ (sym c.is_port.ensures ∙ c.if-is_port.true)
 
 pub read_memory-r-requires : goal.read_memory-r-requires
-read_memory-r-requires c = word_aligned _ c.requires.1
+read_memory-r-requires c = word_aligned _ c.requires.a_value
 
 pub returns-in-There : goal.returns-in-There
 returns-in-There c = c.instruction.ensures ∙ (rw c.decode-i.ensures (fetch_word _ _ _ _ _ (sym c.is_port.ensures ∙ c.if-is_port.false) _ (sym c.read_memory-r.ensures ∙ c.in-There.is)))

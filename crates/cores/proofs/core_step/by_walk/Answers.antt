@@ -8,13 +8,13 @@ use Rattle.tlb.specs.Walks.{hit}
 use Rattle.cores.proofs.core_step.by_walk.Goals as goal
 
 pub fits-requires : goal.fits-requires
-fits-requires c = (c.requires.0.long, records_linked _ _ c.requires.0.records)
+fits-requires c = record { b_len = c.requires.sound_beside.long; b_value = records_linked _ _ c.requires.sound_beside.records }
 
 pub returns-then-not-fits : goal.returns-then-not-fits
 returns-then-not-fits c = c.refused.ensures ∙ fetch_unfit _ _ _ _ _ c.fits2.result (rw (← c.user-user.ensures, ← c.fetch_request-t.ensures) c.fits2.ensures) (not-true _ c.if-not-fits.true)
 
 pub passed-requires : goal.passed-requires
-passed-requires c = (c.requires.0, (c.requires.1, rw (← c.user-user.ensures) (held_base _ c.args.b.now c.args.fetch c.user-user.result (hit c.fetch_request-t.result c.args.fetch) c.requires.0.records (sym c.fits2.ensures ∙ not-false _ c.if-not-fits.false))))
+passed-requires c = record { sound_beside = c.requires.sound_beside; b_value = c.requires.b_value; second_value = rw (← c.user-user.ensures) (held_base _ c.args.b.now c.args.fetch c.user-user.result (hit c.fetch_request-t.result c.args.fetch) c.requires.sound_beside.records (sym c.fits2.ensures ∙ not-false _ c.if-not-fits.false)) }
 
 pub returns-in-Passes : goal.returns-in-Passes
 returns-in-Passes c = c.passed.ensures ∙ fetch_fit _ _ _ _ _ c.fits2.result Passes (rw (← c.user-user.ensures, ← c.fetch_request-t.ensures) c.fits2.ensures) (not-false _ c.if-not-fits.false) (sym c.in-Passes.is ∙ (rw (← c.user-user.ensures, ← c.fetch_request-t.ensures) c.fault-f.ensures))

@@ -10,7 +10,7 @@ pub returns-then-pc-ne0 : goal.returns-then-pc-ne0
 returns-then-pc-ne0 c = c.stopped.ensures ∙ (rw c.without-ca.ensures (step_misaligned _ _ _ _ _ (sym c.runs.ensures ∙ not-false _ c.if-not-runs.false) (rw (← c.pc.ensures) (ne_eqb _ _ c.if-pc-ne0.true))))
 
 pub by_walk-requires : goal.by_walk-requires
-by_walk-requires c = (c.requires, rw (← c.pc.ensures) c.if-pc-ne0.false)
+by_walk-requires c = record { sound_beside = c.requires; b_value = rw (← c.pc.ensures) c.if-pc-ne0.false }
 
 pub returns : goal.returns
 returns c = c.by_walk.ensures ∙ step_fetch _ _ _ _ _ (sym c.runs.ensures ∙ not-false _ c.if-not-runs.false) (rw (← c.pc.ensures) (eq-eqb _ _ c.if-pc-ne0.false))

@@ -44,41 +44,41 @@ set_line-requires c = let f = line_asks (cores_of c.args.t.now) (length c.args.m
 
 pub returns-in-Refused : goal.returns-in-Refused
 unfolding tables_after memory_after
-returns-in-Refused c = (rw c.in-Refused.is refl, rw c.in-Refused.is refl)
+returns-in-Refused c = record { t_after = rw c.in-Refused.is refl; m_after = rw c.in-Refused.is refl }
 
 pub returns-in-Planned : goal.returns-in-Planned
 returns-in-Planned c = absurd (true_false (sym (ap is_plan c.in-Planned.is) ∙ c.pre.1.1))
 
 pub returns-in-SendIpi : goal.returns-in-SendIpi
 unfolding tables_after memory_after
-returns-in-SendIpi c = (c.send_ipi.ensures ∙ rw c.in-SendIpi.is refl, rw c.in-SendIpi.is refl)
+returns-in-SendIpi c = record { t_after = c.send_ipi.ensures ∙ rw c.in-SendIpi.is refl; m_after = rw c.in-SendIpi.is refl }
 
 pub returns-in-SendEoi : goal.returns-in-SendEoi
 unfolding tables_after memory_after
-returns-in-SendEoi c = (c.send_eoi.ensures ∙ rw c.in-SendEoi.is refl, rw c.in-SendEoi.is refl)
+returns-in-SendEoi c = record { t_after = c.send_eoi.ensures ∙ rw c.in-SendEoi.is refl; m_after = rw c.in-SendEoi.is refl }
 
 pub returns-in-InitCore : goal.returns-in-InitCore
 unfolding tables_after memory_after
 returns-in-InitCore c =
     let b = c in
     let q = b.before.before.a3.given.1 in
-    (part_done b.before.before.before.before.before.before.before.args.t.now _ b.block_at_lem.result b.block_at_lem.ensures init_core c.init_core.last.0 c.init_core.ensures ∙ rw q refl, rw q refl)
+    record { t_after = part_done b.before.before.before.before.before.before.before.args.t.now _ b.block_at_lem.result b.block_at_lem.ensures init_core c.init_core.last.0 c.init_core.ensures ∙ rw q refl; m_after = rw q refl }
 
 pub returns-in-StartCore : goal.returns-in-StartCore
 unfolding tables_after memory_after
 returns-in-StartCore c =
     let b = c in
     let q = b.before.before.a4.given.1 in
-    (part_done b.before.before.before.before.before.before.before.args.t.now _ b.block-at2.result b.block-at2.ensures start_core c.start_core.last.0 c.start_core.ensures ∙ rw q refl, rw q refl)
+    record { t_after = part_done b.before.before.before.before.before.before.before.args.t.now _ b.block-at2.result b.block-at2.ensures start_core c.start_core.last.0 c.start_core.ensures ∙ rw q refl; m_after = rw q refl }
 
 pub returns-in-Sample : goal.returns-in-Sample
 unfolding tables_after memory_after
-returns-in-Sample c = (c.sample.ensures ∙ rw c.in-Sample.is refl, rw c.in-Sample.is refl)
+returns-in-Sample c = record { t_after = c.sample.ensures ∙ rw c.in-Sample.is refl; m_after = rw c.in-Sample.is refl }
 
 pub returns-in-Deliver : goal.returns-in-Deliver
 unfolding tables_after memory_after
-returns-in-Deliver c = (c.deliver.ensures ∙ rw c.in-Deliver.is refl, rw c.in-Deliver.is refl)
+returns-in-Deliver c = record { t_after = c.deliver.ensures ∙ rw c.in-Deliver.is refl; m_after = rw c.in-Deliver.is refl }
 
 pub returns-in-SetLine : goal.returns-in-SetLine
 unfolding tables_after memory_after
-returns-in-SetLine c = (c.set_line.ensures ∙ rw c.in-SetLine.is refl, rw c.in-SetLine.is refl)
+returns-in-SetLine c = record { t_after = c.set_line.ensures ∙ rw c.in-SetLine.is refl; m_after = rw c.in-SetLine.is refl }

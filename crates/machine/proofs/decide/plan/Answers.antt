@@ -40,7 +40,7 @@ pub core-requires : goal.core-requires
 core-requires c =
     let s = c in
     let f = formed_at s c.in-Core.is in
-    (block_in s _ f, (records_sound s.args.t.now (length s.args.m.now) s.requires.0 _ f, quarters s.args.t.now (length s.args.m.now) s.requires.0))
+    record { k_in_bounds = block_in s _ f; k_value = records_sound s.args.t.now (length s.args.m.now) s.requires.0 _ f; m_len = quarters s.args.t.now (length s.args.m.now) s.requires.0 }
 
 pub block-requires : goal.block-requires
 block-requires c = block_in c _ (create_formed c c.in-TlbCreate.is).0
@@ -48,25 +48,25 @@ block-requires c = block_in c _ (create_formed c c.in-TlbCreate.is).0
 pub create-requires : goal.create-requires
 create-requires c =
     let f = create_formed c c.in-TlbCreate.is in
-    (c.block.ensures.1, (chains_in c _ f.0 c.block.ensures.0, f.1))
+    record { b_len = c.block.ensures.1; b_value = chains_in c _ f.0 c.block.ensures.0; va_bound = f.1 }
 
 pub block-requires-in-TlbExtend : goal.block-requires-in-TlbExtend
 block-requires-in-TlbExtend c = block_in c _ (formed_at c c.in-TlbExtend.is)
 
 pub extend-requires : goal.extend-requires
-extend-requires c = (c.block-in-TlbExtend.ensures.1, chains_in c _ (formed_at c c.in-TlbExtend.is) c.block-in-TlbExtend.ensures.0)
+extend-requires c = record { b_len = c.block-in-TlbExtend.ensures.1; b_value = chains_in c _ (formed_at c c.in-TlbExtend.is) c.block-in-TlbExtend.ensures.0 }
 
 pub block-requires-in-TlbAccessed : goal.block-requires-in-TlbAccessed
 block-requires-in-TlbAccessed c = block_in c _ (formed_at c c.in-TlbAccessed.is)
 
 pub accessed-requires : goal.accessed-requires
-accessed-requires c = (c.block-in-TlbAccessed.ensures.1, chains_in c _ (formed_at c c.in-TlbAccessed.is) c.block-in-TlbAccessed.ensures.0)
+accessed-requires c = record { b_len = c.block-in-TlbAccessed.ensures.1; b_value = chains_in c _ (formed_at c c.in-TlbAccessed.is) c.block-in-TlbAccessed.ensures.0 }
 
 pub block-requires-in-StoreBuffer : goal.block-requires-in-StoreBuffer
 block-requires-in-StoreBuffer c = block_in c _ (formed_at c c.in-StoreBuffer.is)
 
 pub drain-requires : goal.drain-requires
-drain-requires c = (c.block-in-StoreBuffer.ensures.1, chains_in c _ (formed_at c c.in-StoreBuffer.is) c.block-in-StoreBuffer.ensures.0)
+drain-requires c = record { b_len = c.block-in-StoreBuffer.ensures.1; b_value = chains_in c _ (formed_at c c.in-StoreBuffer.is) c.block-in-StoreBuffer.ensures.0 }
 
 pub returns-in-Core : goal.returns-in-Core
 unfolding by_step

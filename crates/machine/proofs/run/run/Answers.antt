@@ -11,7 +11,7 @@ pub returns-then-schedule : goal.returns-then-schedule
 returns-then-schedule c = same_result c.result-then-schedule.ensures refl refl (not_whole_run c.args.t.now c.args.m.now c.args.schedule.now c.args.limit (sym c.sound.ensures ∙ not-false _ c.if-not-sound.false) (ap not c.if-schedule.true))
 
 pub steps-requires : goal.steps-requires
-steps-requires c = (sym c.sound.ensures ∙ not-false _ c.if-not-sound.false, ap not c.if-schedule.false)
+steps-requires c = record { m_value = sym c.sound.ensures ∙ not-false _ c.if-not-sound.false; schedule_value = ap not c.if-schedule.false }
 
 pub returns : goal.returns
 returns c = moved (whole_is_run c.args.t.now c.args.m.now c.args.schedule.now c.args.limit (sym c.sound.ensures ∙ not-false _ c.if-not-sound.false) (ap not c.if-schedule.false)) c.steps.ensures

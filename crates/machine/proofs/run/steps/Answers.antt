@@ -7,7 +7,7 @@ use Rattle.machine.proofs.Running.{begins, few_accepted, ends, room, spent, refu
 use Rattle.machine.proofs.run.steps.Goals as goal
 
 pub loop-i-init : goal.loop-i-init
-loop-i-init c = (begins c.args.schedule.now c.args.limit c.args.t.now c.args.m.now c.requires.1 c.requires.0 (λ i. omega (arith, c.type_inv.t i)) (λ i. omega (arith, c.type_inv.m i)), (refl, refl))
+loop-i-init c = (begins c.args.schedule.now c.args.limit c.args.t.now c.args.m.now c.requires.schedule_value c.requires.m_value (λ i. omega (arith, c.type_inv.t i)) (λ i. omega (arith, c.type_inv.m i)), (refl, refl))
 
 pub shape_of-t-then-accepted-limit : goal.shape_of-t-then-accepted-limit
 shape_of-t-then-accepted-limit c = c.loop-i.invariant.1.0

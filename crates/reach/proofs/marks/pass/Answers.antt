@@ -9,7 +9,7 @@ pub loop-p-init : goal.loop-p-init
 loop-p-init c = (omega arith, loop_start _ _ _)
 
 pub scan_marked-stray-requires : goal.scan_marked-stray-requires
-scan_marked-stray-requires c = let e = c in ((marked_long c.loop-p.invariant.1 ∙ e.requires.0.0, e.requires.0.1, e.requires.0.2), (e.requires.1, c.loop-p-test.true))
+scan_marked-stray-requires c = let e = c in record { s_len = (marked_long c.loop-p.invariant.1 ∙ e.requires.0.0, e.requires.0.1, e.requires.0.2); m_len = (e.requires.1, c.loop-p-test.true) }
 
 pub loop-p-preserved : goal.loop-p-preserved
 loop-p-preserved c =

@@ -9,7 +9,7 @@ use Rattle.reach.proofs.roots.mark_chain.Goals.{Else-n-eq0}
 
 -- a record on the chain is below 32
 low : (c : Else-n-eq0) → c.loop-k.n < 32
-low c = check_low _ _ _ _ c.requires.1 c.loop-k.invariant.check c.loop-k-test.true c.if-n-eq0.false
+low c = check_low _ _ _ _ c.requires.head_value c.loop-k.invariant.check c.loop-k-test.true c.if-n-eq0.false
 
 pub loop-k-init : goal.loop-k-init
 loop-k-init c = chain_start _ _ _ _ _
@@ -36,10 +36,10 @@ pub offset_bounds-b-n : goal.offset_bounds-b-n
 offset_bounds-b-n c = omega (arith, low (goal.at.offset_bounds-b-n c).Else-n-eq0)
 
 pub bounds-b-n : goal.bounds-b-n
-bounds-b-n c = omega (arith, low (goal.at.bounds-b-n c).Else-n-eq0, c.requires.0.2)
+bounds-b-n c = omega (arith, low (goal.at.bounds-b-n c).Else-n-eq0, c.requires.s_len.2)
 
 pub loop-k-preserved : goal.loop-k-preserved
-loop-k-preserved c = chain_next _ _ _ _ _ _ _ _ _ c.loop-k.invariant _ _ c.requires.1 c.loop-k-test.true c.if-n-eq0.false c.mark_record-stray.ensures
+loop-k-preserved c = chain_next _ _ _ _ _ _ _ _ _ c.loop-k.invariant _ _ c.requires.head_value c.loop-k-test.true c.if-n-eq0.false c.mark_record-stray.ensures
 
 pub shape_of-s : goal.shape_of-s
 shape_of-s c = marked_long c.loop-k.invariant.sofar

@@ -7,16 +7,16 @@ use Rattle.separation.proofs.Deciding.{room}
 use Rattle.reasons.proofs.judge.at_fault.Goals as goal
 
 pub bounds-t-1 : goal.bounds-t-1
-bounds-t-1 c = omega (arith, (header _ _ c.requires.0.0).long)
+bounds-t-1 c = omega (arith, (header _ _ c.requires.m_value.0).long)
 
 pub overflow_cast-pages : goal.overflow_cast-pages
-overflow_cast-pages c = record { fits = omega (arith, (header _ _ c.requires.0.0).few_pages) }
+overflow_cast-pages c = record { fits = omega (arith, (header _ _ c.requires.m_value.0).few_pages) }
 
 pub slice_bounds-marks-end : goal.slice_bounds-marks-end
-slice_bounds-marks-end c = omega (arith, (header _ _ c.requires.0.0).few_pages)
+slice_bounds-marks-end c = omega (arith, (header _ _ c.requires.m_value.0).few_pages)
 
 pub slice_bounds-marked-end : goal.slice_bounds-marked-end
-slice_bounds-marked-end c = sym (room _ (header _ _ c.requires.0.0).few_pages)
+slice_bounds-marked-end c = sym (room _ (header _ _ c.requires.m_value.0).few_pages)
 
 pub marked-requires : goal.marked-requires
-marked-requires c = let e = c in let h = header _ _ e.requires.0.0 in (e.requires.0, (e.requires.1.0, e.requires.1.1, room _ h.few_pages))
+marked-requires c = let e = c in let h = header _ _ e.requires.0.0 in record { m_value = e.requires.0; own_len = (e.requires.1.0, e.requires.1.1, room _ h.few_pages) }

@@ -7,7 +7,7 @@ use Rattle.reasons.proofs.Reasons.{beyond_is, beyond_none}
 use Rattle.reasons.proofs.judge.beyond.Goals as goal
 
 pub find-requires : goal.find-requires
-find-requires c = (c.requires.0, c.requires.1.0)
+find-requires c = record { m_value = c.requires.m_value; map_len = c.requires.map_len }
 
 pub returns-then-strays : goal.returns-then-strays
 returns-then-strays c = let a = c.args in c.find.ensures ∙ beyond_is (members a.group (cores_of a.t.now)) a.t.now a.m.now a.map.now

@@ -25,4 +25,4 @@ pub slice_bounds-with_maps-end-2 : goal.slice_bounds-with_maps-end-2
 slice_bounds-with_maps-end-2 c = sym (room _ (header _ _ c.requires).few_pages)
 
 pub with_maps-requires : goal.with_maps-requires
-with_maps-requires c = let h = header _ _ c.requires in (c.requires, (room _ h.few_pages, room _ h.few_pages))
+with_maps-requires c = let h = header _ _ c.requires in record { m_value = c.requires; own_len = (room _ h.few_pages, room _ h.few_pages) }

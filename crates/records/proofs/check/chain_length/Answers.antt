@@ -6,7 +6,7 @@ use Rattle.records.proofs.check.chain_length.Goals.{Else-n-eq0}
 
 -- a record on the chain is below 32
 low : (c : Else-n-eq0) → c.loop-k.n < 32
-low c = check_low _ _ _ _ c.requires.1.1 c.loop-k.invariant.check c.loop-k-test.true c.if-n-eq0.false
+low c = check_low _ _ _ _ c.requires.head_value c.loop-k.invariant.check c.loop-k-test.true c.if-n-eq0.false
 
 pub loop-k-init : goal.loop-k-init
 loop-k-init c = measure_start _ _
@@ -30,7 +30,7 @@ pub bounds-b-n : goal.bounds-b-n
 bounds-b-n c = omega (arith, low (goal.at.bounds-b-n c).Else-n-eq0)
 
 pub loop-k-preserved : goal.loop-k-preserved
-loop-k-preserved c = measure_next _ _ _ _ _ c.loop-k.invariant c.requires.1.1 c.loop-k-test.true c.if-n-eq0.false
+loop-k-preserved c = measure_next _ _ _ _ _ c.loop-k.invariant c.requires.head_value c.loop-k-test.true c.if-n-eq0.false
 
 pub returns : goal.returns
 returns c = measure_out _ _ _ _ _ c.loop-k.invariant c.loop-k-test.false

@@ -6,19 +6,19 @@ use Rattle.records.proofs.Whole.{none_seen, tallied_bound, tallied_once, once_fa
 use Rattle.records.proofs.check.records_once.Goals as goal
 
 pub tally-requires : goal.tally-requires
-tally-requires c = (c.requires, (omega arith, (omega arith, (refl, λ m. omega (arith, none_seen m)))))
+tally-requires c = record { b_len = c.requires; head_bound = omega arith; most_bound = omega arith; seen_len = refl; by_index = λ m. omega (arith, none_seen m) }
 
 pub returns-then-not-tally : goal.returns-then-not-tally
 returns-then-not-tally c = once_fails_stores c.args.bytes _ _ (not-true _ c.if-not-tally.true) c.type_inv.seen.ensures.result
 
 pub tally-requires-2 : goal.tally-requires-2
-tally-requires-2 c = (c.requires, (omega arith, (omega arith, (c.type_inv.seen.ensures.long, λ m. omega (arith, tallied_bound _ _ _ _ _ _ _ 0 c.type_inv.seen.ensures (not-false _ c.if-not-tally.false) (λ k. omega (arith, none_seen k)) m)))))
+tally-requires-2 c = record { b_len = c.requires; head_bound = omega arith; most_bound = omega arith; seen_len = c.type_inv.seen.ensures.long; by_index = λ m. omega (arith, tallied_bound _ _ _ _ _ _ _ 0 c.type_inv.seen.ensures (not-false _ c.if-not-tally.false) (λ k. omega (arith, none_seen k)) m) }
 
 pub returns-then-not-tally-2 : goal.returns-then-not-tally-2
 returns-then-not-tally-2 c = once_fails_walks _ _ _ (not-true _ c.if-not-tally-2.true) c.type_inv.seen.ensures.result
 
 pub tally-requires-3 : goal.tally-requires-3
-tally-requires-3 c = (c.requires, (omega arith, (omega arith, (c.type_inv.seen.ensures.long, λ m. omega (arith, tallied_bound _ _ _ _ _ _ _ 32 c.type_inv.seen.ensures (not-false _ c.if-not-tally-2.false) (tallied_bound _ _ _ _ _ _ _ 0 c.type_inv.seen.ensures (not-false _ c.if-not-tally.false) (λ k. omega (arith, none_seen k))) m)))))
+tally-requires-3 c = record { b_len = c.requires; head_bound = omega arith; most_bound = omega arith; seen_len = c.type_inv.seen.ensures.long; by_index = λ m. omega (arith, tallied_bound _ _ _ _ _ _ _ 32 c.type_inv.seen.ensures (not-false _ c.if-not-tally-2.false) (tallied_bound _ _ _ _ _ _ _ 0 c.type_inv.seen.ensures (not-false _ c.if-not-tally.false) (λ k. omega (arith, none_seen k))) m) }
 
 pub returns-then-not-tally-3 : goal.returns-then-not-tally-3
 returns-then-not-tally-3 c = once_fails_free _ _ _ (not-true _ c.if-not-tally-3.true) c.type_inv.seen.ensures.result

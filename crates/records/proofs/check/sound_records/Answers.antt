@@ -12,7 +12,7 @@ pub returns-then-not-first_blank : goal.returns-then-not-first_blank
 returns-then-not-first_blank c = fails_first _ _ _ (not-true _ c.if-not-first_blank.true) c.first_blank.ensures
 
 pub walks_differ-requires : goal.walks_differ-requires
-walks_differ-requires c = (c.requires, walks_low _ _ (sym c.records_once.ensures ∙ not-false _ c.if-not-records_once.false))
+walks_differ-requires c = record { b_len = c.requires; b_value = walks_low _ _ (sym c.records_once.ensures ∙ not-false _ c.if-not-records_once.false) }
 
 pub returns : goal.returns
 returns c =

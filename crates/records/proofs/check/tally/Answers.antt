@@ -5,7 +5,7 @@ use Rattle.records.proofs.Checking.{tally_start, tally_next, tally_end, tally_ma
 use Rattle.records.proofs.check.tally.Goals as goal
 
 pub loop-n-init : goal.loop-n-init
-loop-n-init c = tally_start _ _ _ _ _ c.requires.1.1.0 c.requires.1.1.1.0 c.requires.1.1.1.1
+loop-n-init c = tally_start _ _ _ _ _ c.requires.most_bound c.requires.seen_len c.requires.by_index
 
 pub returns-then-k-eq0 : goal.returns-then-k-eq0
 returns-then-k-eq0 c = tally_many _ _ _ _ _ _ _ _ c.loop-n.invariant c.loop-n-test.true c.if-k-eq0.true
@@ -14,7 +14,7 @@ pub returns-then-n-ge32 : goal.returns-then-n-ge32
 returns-then-n-ge32 c = tally_big _ _ _ _ _ _ _ _ c.loop-n.invariant c.loop-n-test.true c.if-n-ge32.true
 
 pub obeys-requires : goal.obeys-requires
-obeys-requires c = (c.requires.0, omega arith)
+obeys-requires c = record { b_len = c.requires.b_len; n_bound = omega arith }
 
 pub returns-then-not-obeys : goal.returns-then-not-obeys
 returns-then-not-obeys c = tally_bad _ _ _ _ _ _ _ _ c.loop-n.invariant c.loop-n-test.true c.if-n-ge32.false (sym c.obeys.ensures ∙ not-true _ c.if-not-obeys.true)

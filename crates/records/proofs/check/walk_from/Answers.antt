@@ -11,7 +11,7 @@ low : (c : Else-n-eq0) → c.loop-k.n < 32
 low c = left_low c.loop-k.invariant.left c.loop-k-test.true c.if-n-eq0.false
 
 pub loop-k-init : goal.loop-k-init
-loop-k-init c = record { left = record { low = c.requires.1; same = refl } }
+loop-k-init c = record { left = record { low = c.requires.start_value; same = refl } }
 
 pub returns-then-n-eq0 : goal.returns-then-n-eq0
 returns-then-n-eq0 c = find_zero c.loop-k.invariant c.if-n-eq0.true

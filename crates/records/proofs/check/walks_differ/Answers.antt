@@ -11,7 +11,7 @@ low : (c : Else-n-eq0) → c.loop-k.n < 32
 low c = left_low c.loop-k.invariant.left c.loop-k-test.true c.if-n-eq0.false
 
 pub loop-k-init : goal.loop-k-init
-loop-k-init c = record { left = record { low = c.requires.1; same = refl } }
+loop-k-init c = record { left = record { low = c.requires.b_value; same = refl } }
 
 pub returns-then-n-eq0 : goal.returns-then-n-eq0
 unfolding walks
@@ -51,7 +51,7 @@ pub bounds-b-i-in-loop-k-2 : goal.bounds-b-i-in-loop-k-2
 bounds-b-i-in-loop-k-2 c = omega (arith, low (goal.at.bounds-b-i-in-loop-k-2 c).Else-n-eq0)
 
 pub walk_from-requires : goal.walk_from-requires
-walk_from-requires c = (c.requires.0, left_lows c.loop-k.invariant.left c.loop-k-test.true c.if-n-eq0.false)
+walk_from-requires c = record { b_len = c.requires.b_len; start_value = left_lows c.loop-k.invariant.left c.loop-k-test.true c.if-n-eq0.false }
 
 pub returns-then-walk_from : goal.returns-then-walk_from
 unfolding walks

@@ -34,4 +34,4 @@ returns c =
     let a = c.args in
     let e : c.loop-k.k ≡ cores_of a.t.now = omega arith in
     let r = c.loop-k.invariant.1.1 ∙ ap (rest_below a.group a.t.now) e in
-    (r, ap (λ (n : ℕ). members n (cores_of a.t.now)) r ∙ rest_members a.group a.t.now)
+    record { value = r; t_value = ap (λ (n : ℕ). members n (cores_of a.t.now)) r ∙ rest_members a.group a.t.now }

@@ -12,7 +12,7 @@ use Rattle.ways.proofs.Blocks.{blank}
 use Rattle.ways.proofs.roots.find.Goals as goal
 
 pub bounds-t-1 : goal.bounds-t-1
-bounds-t-1 c = omega (arith, (header _ _ c.requires.0).long)
+bounds-t-1 c = omega (arith, (header _ _ c.requires.m_value).long)
 
 pub from_cores-requires : goal.from_cores-requires
-from_cores-requires c = let e = c in (e.requires.0, ((refl, e.requires.1, length-replicate {A = ℕ} 4096 0), blank (wanted e.args.want (pages_of e.args.t.now) e.args.map.now) e.args.m.now Nothing 4096))
+from_cores-requires c = let e = c in record { m_value = e.requires.0; pages_value = (refl, e.requires.1, length-replicate {A = ℕ} 4096 0); known = blank (wanted e.args.want (pages_of e.args.t.now) e.args.map.now) e.args.m.now Nothing 4096 }

@@ -10,10 +10,10 @@ use Rattle.ways.proofs.roots.from_chain.Goals.{Else-n-eq0}
 
 -- a record on the chain is below 32
 low : (c : Else-n-eq0) → c.loop-fuel.n < 32
-low c = check_low _ _ _ _ c.requires.1.0.2 c.loop-fuel.invariant.check c.loop-fuel-test.true c.if-n-eq0.false
+low c = check_low _ _ _ _ c.requires.b_len.2 c.loop-fuel.invariant.check c.loop-fuel-test.true c.if-n-eq0.false
 
 pub loop-fuel-init : goal.loop-fuel-init
-loop-fuel-init c = chain_start (wanted c.args.want c.args.pages c.args.map.now) c.args.m.now (record_ways c.args.m.now c.args.b.now c.args.k c.args.store) c.args.b.now c.args.head _ _ c.requires.1.1
+loop-fuel-init c = chain_start (wanted c.args.want c.args.pages c.args.map.now) c.args.m.now (record_ways c.args.m.now c.args.b.now c.args.k c.args.store) c.args.b.now c.args.head _ _ c.requires.known
 
 pub shape_of-seen-then-n-eq0 : goal.shape_of-seen-then-n-eq0
 shape_of-seen-then-n-eq0 c = c.loop-fuel.invariant.sofar.long
@@ -22,10 +22,10 @@ pub returns-then-n-eq0 : goal.returns-then-n-eq0
 returns-then-n-eq0 c = let l = c.loop-fuel in chain_ends (wanted c.args.want c.args.pages c.args.map.now) c.args.m.now (record_ways c.args.m.now c.args.b.now c.args.k c.args.store) c.args.b.now c.args.head _ _ _ _ l.n l.fuel l.invariant c.if-n-eq0.true
 
 pub record_way-way-requires : goal.record_way-way-requires
-record_way-way-requires c = (c.requires.1.0.0, low (goal.at.record_way-way-requires c).Else-n-eq0)
+record_way-way-requires c = (c.requires.b_len.0, low (goal.at.record_way-way-requires c).Else-n-eq0)
 
 pub from_root-found-requires : goal.from_root-found-requires
-from_root-found-requires c = let e = c in let l = c.loop-fuel in ((e.requires.0.0, e.requires.0.1, e.requires.0.2, l.invariant.sofar.long ∙ e.requires.0.3), (ap (λ (v : Way). v.entries) c.record_way-way.ensures, l.invariant.sofar.known))
+from_root-found-requires c = let e = c in let l = c.loop-fuel in record { m_len = (e.requires.0.0, e.requires.0.1, e.requires.0.2, l.invariant.sofar.long ∙ e.requires.0.3); entries_value = ap (λ (v : Way). v.entries) c.record_way-way.ensures; known = l.invariant.sofar.known }
 
 pub overflow_cast-n : goal.overflow_cast-n
 overflow_cast-n c = omega (arith, low (goal.at.overflow_cast-n c).Else-n-eq0)
@@ -40,7 +40,7 @@ pub offset_bounds-b-n : goal.offset_bounds-b-n
 offset_bounds-b-n c = omega (arith, low (goal.at.offset_bounds-b-n c).Else-n-eq0)
 
 pub bounds-b-n : goal.bounds-b-n
-bounds-b-n c = omega (arith, low (goal.at.bounds-b-n c).Else-n-eq0, c.requires.1.0.0)
+bounds-b-n c = omega (arith, low (goal.at.bounds-b-n c).Else-n-eq0, c.requires.b_len.0)
 
 pub loop-fuel-preserved : goal.loop-fuel-preserved
 loop-fuel-preserved c = let e = c in let l = c.loop-fuel in chain_next (wanted c.args.want c.args.pages c.args.map.now) c.args.m.now (record_ways c.args.m.now c.args.b.now c.args.k c.args.store) c.args.b.now c.args.head _ _ _ _ l.n l.fuel l.invariant _ _ e.requires.1.0.2 c.loop-fuel-test.true c.if-n-eq0.false (way_ways (wanted c.args.want c.args.pages c.args.map.now) c.args.m.now e.args.b.now e.args.k e.args.store l.n _ c.record_way-way.ensures c.from_root-found.ensures)

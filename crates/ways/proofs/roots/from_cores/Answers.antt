@@ -8,16 +8,16 @@ use Rattle.ways.proofs.Blocks.{cores_start, cores_next, cores_end}
 use Rattle.ways.proofs.roots.from_cores.Goals as goal
 
 pub bounds-t-0 : goal.bounds-t-0
-bounds-t-0 c = omega (arith, (header _ _ c.requires.0).long)
+bounds-t-0 c = omega (arith, (header _ _ c.requires.m_value).long)
 
 pub loop-k-init : goal.loop-k-init
-loop-k-init c = (omega arith, cores_start (wanted c.args.want c.args.pages c.args.map.now) c.args.m.now _ _ _ c.requires.1.1)
+loop-k-init c = (omega arith, cores_start (wanted c.args.want c.args.pages c.args.map.now) c.args.m.now _ _ _ c.requires.known)
 
 pub from_core-found-requires : goal.from_core-found-requires
-from_core-found-requires c = let e = c in let l = c.loop-k in let h = header _ _ e.requires.0 in ((h.bytes ∙ ap (λ (z : ℕ). 4096 * z) (sym e.requires.1.0.0), omega (arith, h.few_pages, e.requires.1.0.0), e.requires.1.0.1, l.invariant.1.long ∙ e.requires.1.0.2), ((omega (arith, h.few_cores), omega (arith, h.long), core_linked _ c.args.m.now e.requires.0 l.k c.loop-k-test.true), l.invariant.1.known))
+from_core-found-requires c = let e = c in let l = c.loop-k in let h = header _ _ e.requires.0 in record { m_len = (h.bytes ∙ ap (λ (z : ℕ). 4096 * z) (sym e.requires.1.0.0), omega (arith, h.few_pages, e.requires.1.0.0), e.requires.1.0.1, l.invariant.1.long ∙ e.requires.1.0.2); k_bound = (omega (arith, h.few_cores), omega (arith, h.long), core_linked _ c.args.m.now e.requires.0 l.k c.loop-k-test.true); known = l.invariant.1.known }
 
 pub overflow_add-k : goal.overflow_add-k
-overflow_add-k c = omega (arith, (header _ _ c.requires.0).few_cores)
+overflow_add-k c = omega (arith, (header _ _ c.requires.m_value).few_cores)
 
 pub loop-k-preserved : goal.loop-k-preserved
 loop-k-preserved c = let l = c.loop-k in (omega arith, cores_next (wanted c.args.want c.args.pages c.args.map.now) c.args.m.now (member_ways c.args.group c.args.t.now c.args.m.now) l.k l.invariant.1 c.from_core-found.ensures)

@@ -9,7 +9,7 @@ pub loop-i-init : goal.loop-i-init
 loop-i-init c = let e = c in (omega arith, entries_start _ _ e.requires.0.0 e.requires.0.1 (wanted c.args.want c.args.pages c.args.map.now) _ _ e.args.way e.requires.1.0.0 e.requires.1.1)
 
 pub from_entry-found-requires : goal.from_entry-found-requires
-from_entry-found-requires c = let e = c in let l = c.loop-i in ((e.requires.0.0, e.requires.0.1, e.requires.0.2, l.invariant.1.long ∙ e.requires.0.3), ((e.requires.1.0.1, e.requires.1.0.2, c.loop-i-test.true), l.invariant.1.known))
+from_entry-found-requires c = let e = c in let l = c.loop-i in record { m_len = (e.requires.0.0, e.requires.0.1, e.requires.0.2, l.invariant.1.long ∙ e.requires.0.3); entries_value = (e.requires.1.0.1, e.requires.1.0.2, c.loop-i-test.true); known = l.invariant.1.known }
 
 pub loop-i-preserved : goal.loop-i-preserved
 loop-i-preserved c = let e = c in let l = c.loop-i in (omega arith, entries_next _ _ e.requires.0.0 e.requires.0.1 (wanted c.args.want c.args.pages c.args.map.now) _ _ e.args.way e.requires.1.0.0 _ _ _ _ l.i _ c.loop-i-test.true c.read_word-e.ensures l.invariant.1 c.from_entry-found.ensures)
