@@ -195,6 +195,22 @@ def convert(folder, fn, of):
                 t = re.sub(r"(?<![\w'-])" + re.escape(h) + r' (?:\(c\)|c(?:\.before)*)(?![\w.-])', f'{h} (goal.at.{goalname} c).{place}', t)
         where = at_lemma or place_of.get(goalname)
         steps2, arms, clauses, types = known(where) if where in index else (steps, {}, {}, typed)
+        # a let that names the record of what is known
+        for alias in re.findall(r"let (\w+) = c(?:\.before)* in", t):
+            t = re.sub(r"let " + alias + r" = c(?:\.before)* in\s*", '', t)
+            t = re.sub(r"(?<![\w'.-])" + alias + r"(?=\.)", 'c', t)
+            t = re.sub(r"(?<![\w'.-])" + alias + r"(?![\w'-])", 'c', t)
+        # a let that names what is required or a call's clauses
+        for alias, way in re.findall(r"let (\w+) = c((?:\.[A-Za-z0-9_'-]+)+) in", t):
+            parts = [p for p in way.split('.')[1:] if p != 'before']
+            ns = []
+            if parts == ['requires']: ns = own_requires
+            elif len(parts) == 2 and parts[1] == 'ensures': ns = clauses.get(norm(parts[0]), [])
+            if len(ns) > 1:
+                def turn_alias(m):
+                    got = of_pairs(ns, [q for q in m.group(1).split('.')[1:]])
+                    return '.'.join([alias] + got) if got else m.group(0)
+                t = re.sub(r"(?<![\w'.-])" + alias + r"((?:\.[A-Za-z0-9_'-]+)+)", turn_alias, t)
         def chain(m):
             parts = [p for p in m.group(2).split('.')[1:] if p != 'before']
             if not parts: return 'c'
@@ -204,7 +220,8 @@ def convert(folder, fn, of):
                 if (k, tuple(parts[1:n])) in arms:
                     to = arms[(k, tuple(parts[1:n]))]
                     return '.'.join(['c', to] + parts[n:])
-            if k in types or k in typed:
+            is_call = len(parts) > 1 and parts[1] in ('ensures', 'result', 'new', 'auto') and k in steps2
+            if (k in types or k in typed) and not is_call:
                 v = types.get(k) or typed[k]
                 return '.'.join(['c', 'type_inv', v] + (parts[2:] if len(parts) > 1 and parts[1] == 'given' else parts[1:]))
             if k in clauses and len(parts) > 1 and parts[1] == 'ensures':

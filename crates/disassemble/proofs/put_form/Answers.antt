@@ -9,15 +9,13 @@ use Rattle.disassemble.proofs.put_form.Goals as goal
 pub put_mnemonic-p-requires : goal.put_mnemonic-p-requires
 unfolding form_text
 put_mnemonic-p-requires c =
-    let e = c in
-    omega (arith, length-append (letters e.args.l.0) (operands_text (as_list e.args.l.1) e.args.w), e.requires)
+    omega (arith, length-append (letters c.args.l.0) (operands_text (as_list c.args.l.1) c.args.w), c.requires)
 
 pub put_operands-requires : goal.put_operands-requires
 unfolding form_text
 put_operands-requires c =
-    let e = c in
     let p = c.put_mnemonic-p.ensures in
-    omega (arith, length-append (letters e.args.l.0) (operands_text (as_list e.args.l.1) e.args.w), p.place, p.kept, e.requires)
+    omega (arith, length-append (letters c.args.l.0) (operands_text (as_list c.args.l.1) c.args.w), p.place, p.kept, c.requires)
 
 pub returns : goal.returns
 unfolding form_text

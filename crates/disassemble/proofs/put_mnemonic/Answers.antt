@@ -18,15 +18,13 @@ returns-then-mnemonic-n-eq0 c =
 pub bounds-text-n : goal.bounds-text-n
 bounds-text-n c =
     let l = c.loop-n in
-    let e = c in
-    omega (arith, l.invariant.0.kept, e.requires, (letters_next e.args.mnemonic.now l.n c.loop-n-test.true l.invariant.1 c.if-mnemonic-n-eq0.false).0)
+    omega (arith, l.invariant.0.kept, c.requires, (letters_next c.args.mnemonic.now l.n c.loop-n-test.true l.invariant.1 c.if-mnemonic-n-eq0.false).0)
 
 pub loop-n-preserved : goal.loop-n-preserved
 loop-n-preserved c =
     let l = c.loop-n in
-    let e = c in
-    let m = letters_next e.args.mnemonic.now l.n c.loop-n-test.true l.invariant.1 c.if-mnemonic-n-eq0.false in
-    (rw (← m.1) (letter_more _ _ _ _ l.invariant.0 m.0 (omega (arith, l.invariant.0.kept, e.requires, m.0))), omega (arith, m.0))
+    let m = letters_next c.args.mnemonic.now l.n c.loop-n-test.true l.invariant.1 c.if-mnemonic-n-eq0.false in
+    (rw (← m.1) (letter_more _ _ _ _ l.invariant.0 m.0 (omega (arith, l.invariant.0.kept, c.requires, m.0))), omega (arith, m.0))
 
 pub shape_of-text : goal.shape_of-text
 shape_of-text c = c.loop-n.invariant.0.kept

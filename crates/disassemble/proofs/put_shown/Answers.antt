@@ -8,38 +8,31 @@ use Rattle.disassemble.proofs.put_shown.Goals as goal
 
 pub put_register-requires : goal.put_register-requires
 put_register-requires c =
-    let e = c in
-    omega (arith, ap length (as_shown Rs e.args.w c.in-Rs.is c.rs.ensures), e.requires)
+    omega (arith, ap length (as_shown Rs c.args.w c.in-Rs.is c.rs.ensures), c.requires)
 
 pub put_register-requires-in-Rt : goal.put_register-requires-in-Rt
 put_register-requires-in-Rt c =
-    let e = c in
-    omega (arith, ap length (as_shown Rt e.args.w c.in-Rt.is c.rt.ensures), e.requires)
+    omega (arith, ap length (as_shown Rt c.args.w c.in-Rt.is c.rt.ensures), c.requires)
 
 pub put_register-requires-in-Rd : goal.put_register-requires-in-Rd
 put_register-requires-in-Rd c =
-    let e = c in
-    omega (arith, ap length (as_shown Rd e.args.w c.in-Rd.is c.rd.ensures), e.requires)
+    omega (arith, ap length (as_shown Rd c.args.w c.in-Rd.is c.rd.ensures), c.requires)
 
 pub put_decimal-requires : goal.put_decimal-requires
 put_decimal-requires c =
-    let e = c in
-    omega (arith, ap length (as_shown Sa e.args.w c.in-Sa.is c.sa.ensures), e.requires)
+    omega (arith, ap length (as_shown Sa c.args.w c.in-Sa.is c.sa.ensures), c.requires)
 
 pub put_signed-requires : goal.put_signed-requires
 put_signed-requires c =
-    let e = c in
-    (omega (arith, c.imm.ensures), omega (arith, ap length (as_shown Imm e.args.w c.in-Imm.is c.imm.ensures), e.requires))
+    (omega (arith, c.imm.ensures), omega (arith, ap length (as_shown Imm c.args.w c.in-Imm.is c.imm.ensures), c.requires))
 
 pub put_decimal-requires-in-Uimm : goal.put_decimal-requires-in-Uimm
 put_decimal-requires-in-Uimm c =
-    let e = c in
-    omega (arith, ap length (as_shown Uimm e.args.w c.in-Uimm.is c.imm-in-Uimm.ensures), e.requires)
+    omega (arith, ap length (as_shown Uimm c.args.w c.in-Uimm.is c.imm-in-Uimm.ensures), c.requires)
 
 pub put_decimal-requires-in-Iindex : goal.put_decimal-requires-in-Iindex
 put_decimal-requires-in-Iindex c =
-    let e = c in
-    omega (arith, ap length (as_shown Iindex e.args.w c.in-Iindex.is c.iindex.ensures), e.requires)
+    omega (arith, ap length (as_shown Iindex c.args.w c.in-Iindex.is c.iindex.ensures), c.requires)
 
 pub returns-in-Rs : goal.returns-in-Rs
 returns-in-Rs c = reworded (as_shown Rs c.args.w c.in-Rs.is c.rs.ensures) c.put_register.ensures

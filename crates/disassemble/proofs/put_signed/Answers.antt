@@ -7,24 +7,20 @@ use Rattle.disassemble.proofs.put_signed.Goals as goal
 
 pub put_decimal-requires : goal.put_decimal-requires
 put_decimal-requires c =
-    let e = c in
-    omega (arith, ap length (signed_low e.args.x c.if-x-lt32768.true), e.requires.1)
+    omega (arith, ap length (signed_low c.args.x c.if-x-lt32768.true), c.requires.1)
 
 pub returns-then-x-lt32768 : goal.returns-then-x-lt32768
 returns-then-x-lt32768 c = reworded (sym (signed_low c.args.x c.if-x-lt32768.true)) c.put_decimal.ensures
 
 pub put_byte-p-requires : goal.put_byte-p-requires
 put_byte-p-requires c =
-    let e = c in
-    omega (arith, ap length (signed_high e.args.x c.if-x-lt32768.false e.requires.0), e.requires.1)
+    omega (arith, ap length (signed_high c.args.x c.if-x-lt32768.false c.requires.0), c.requires.1)
 
 pub put_decimal-requires-2 : goal.put_decimal-requires-2
 put_decimal-requires-2 c =
-    let e = c in
     let p = c.put_byte-p.ensures in
-    omega (arith, ap length (signed_high e.args.x c.if-x-lt32768.false e.requires.0), e.requires.1, p.place, p.kept)
+    omega (arith, ap length (signed_high c.args.x c.if-x-lt32768.false c.requires.0), c.requires.1, p.place, p.kept)
 
 pub returns : goal.returns
 returns c =
-    let e = c in
-    reworded (sym (signed_high e.args.x c.if-x-lt32768.false e.requires.0)) (follow c.put_byte-p.ensures c.put_decimal-2.ensures)
+    reworded (sym (signed_high c.args.x c.if-x-lt32768.false c.requires.0)) (follow c.put_byte-p.ensures c.put_decimal-2.ensures)

@@ -25,4 +25,4 @@ pub slice_bounds-put_with_maps-end-2 : goal.slice_bounds-put_with_maps-end-2
 slice_bounds-put_with_maps-end-2 c = sym (room _ (header _ _ c.requires.0).few_pages)
 
 pub put_with_maps-requires : goal.put_with_maps-requires
-put_with_maps-requires c = let e = c in let h = header _ _ e.requires.0 in record { m_value = e.requires; own_len = (room _ h.few_pages, room _ h.few_pages) }
+put_with_maps-requires c = let h = header _ _ c.requires.0 in record { m_value = c.requires; own_len = (room _ h.few_pages, room _ h.few_pages) }

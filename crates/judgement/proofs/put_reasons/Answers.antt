@@ -13,7 +13,7 @@ pub first_after-r-requires : goal.first_after-r-requires
 first_after-r-requires c = record { m_value = c.requires.m_value.0; sides = c.requires.sides }
 
 pub number-after-requires : goal.number-after-requires
-number-after-requires c = let e = c in let l = c.loop-i in omega (arith, after_small e.args.group e.args.t.now e.args.m.now (6 - l.after) l.after, ap why_number c.first_after-r.ensures)
+number-after-requires c = let l = c.loop-i in omega (arith, after_small c.args.group c.args.t.now c.args.m.now (6 - l.after) l.after, ap why_number c.first_after-r.ensures)
 
 pub shape_of-out-then-after-eq0 : goal.shape_of-out-then-after-eq0
 shape_of-out-then-after-eq0 c = c.loop-i.invariant.0.put.kept
@@ -26,9 +26,8 @@ put_told-p-requires c = let l = c.loop-i in omega (arith, l.invariant.0.put.kept
 
 pub loop-i-preserved : goal.loop-i-preserved
 loop-i-preserved c =
-    let e = c in
     let l = c.loop-i in
-    (line_more e.args.group e.args.t.now e.args.m.now e.requires.0.0 e.requires.0.1 l.i l.after _ _ c.first_after-r.ensures c.number-after.ensures c.loop-i-test.true l.invariant.0 c.if-after-eq0.false c.put_told-p.ensures.0, omega arith, omega (arith, c.put_told-p.ensures.1))
+    (line_more c.args.group c.args.t.now c.args.m.now c.requires.m_value.0 c.requires.m_value.1 l.i l.after _ _ c.first_after-r.ensures c.number-after.ensures c.loop-i-test.true l.invariant.0 c.if-after-eq0.false c.put_told-p.ensures.0, omega arith, omega (arith, c.put_told-p.ensures.1))
 
 pub shape_of-out : goal.shape_of-out
 shape_of-out c = c.loop-i.invariant.0.put.kept

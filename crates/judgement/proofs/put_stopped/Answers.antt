@@ -13,5 +13,4 @@ returns c =
     let first = c.put-p.ensures in
     let cores = c.put_cores-q.ensures in
     let last = c.put.ensures in
-    let a = c in
-    (reworded (a_line a.before.before.stopped.ensures a.before.count-cores.ensures a.if1.false) (follow (follow first cores.0) last), omega (arith, first.place, cores.1, last.place))
+    (reworded (a_line c.stopped-still.ensures c.count_cores.ensures c.if-count_cores-eq0.false) (follow (follow first cores.0) last), omega (arith, first.place, cores.1, last.place))

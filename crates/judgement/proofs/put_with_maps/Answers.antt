@@ -8,4 +8,4 @@ pub rest-others-requires : goal.rest-others-requires
 rest-others-requires c = let h = header _ _ c.requires.m_value.0 in (h.few_cores, omega (arith, h.long))
 
 pub put_all-requires : goal.put_all-requires
-put_all-requires c = let e = c in record { m_value = e.requires.0; sides = record { others = c.rest-others.ensures.t_value; own_map = c.fill-strays.ensures.map_after; other_map = c.fill-astray.ensures.map_after; own_strays = c.fill-strays.ensures.value; other_strays = c.fill-astray.ensures.value } }
+put_all-requires c = record { m_value = c.requires.m_value; sides = record { others = c.rest-others.ensures.t_value; own_map = c.fill-strays.ensures.map_after; other_map = c.fill-astray.ensures.map_after; own_strays = c.fill-strays.ensures.value; other_strays = c.fill-astray.ensures.value } }

@@ -7,6 +7,5 @@ use Rattle.layout.proofs.block.Goals as goal
 
 pub returns : goal.returns
 returns c =
-    let s = c in
-    let e = part s.args.t.now s.args.k c.block_at-a.result c.block_at-a.ensures in
-    (e, ap length e ∙ block_long s.args.t.now s.args.k s.requires)
+    let e = part c.args.t.now c.args.k c.block_at-a.result c.block_at-a.ensures in
+    (e, ap length e ∙ block_long c.args.t.now c.args.k c.requires)

@@ -5,7 +5,7 @@ use Rattle.mips86.proofs.Numbers.{verdict_fits, yes_number}
 use Rattle.mips86.proofs.mips86_apart.Goals as goal
 
 pub verdict_number-requires : goal.verdict_number-requires
-verdict_number-requires c = let e = c in rw c.apart.ensures.value (verdict_fits e.args.group e.args.tables.now e.args.memory.now)
+verdict_number-requires c = rw c.apart.ensures.value (verdict_fits c.args.group c.args.tables.now c.args.memory.now)
 
 pub returns : goal.returns
 returns c = record { value = c.verdict_number.ensures ∙ c.apart.ensures.result_value; promised = λ h. c.apart.ensures.promised (yes_number _ (sym c.verdict_number.ensures ∙ h)) }

@@ -7,10 +7,9 @@ use Rattle.mips86.proofs.mips86_disassemble.Goals as goal
 
 pub disassembled_number-requires : goal.disassembled_number-requires
 disassembled_number-requires c =
-    let e = c in
-    rw c.disassemble.ensures.value (disassembled_fits e.args.word e.args.text.now)
+    rw c.disassemble.ensures.value (disassembled_fits c.args.word c.args.text.now)
 
 pub returns : goal.returns
 returns c =
     let r = c.disassemble.ensures in
-    record { value = c.disassembled_number.ensures ∙ ap (λ a. disassembled_number a) r.0; text_after = r.1.0 }
+    record { value = c.disassembled_number.ensures ∙ ap (λ a. disassembled_number a) r.value; text_after = r.text_after }

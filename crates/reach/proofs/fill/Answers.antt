@@ -16,7 +16,7 @@ pub bounds-t-1 : goal.bounds-t-1
 bounds-t-1 c = omega (arith, (header _ _ c.requires.m_value).long)
 
 pub mark_cores-named-requires : goal.mark_cores-named-requires
-mark_cores-named-requires c = let e = c in let h = header _ _ e.requires.0 in record { s_len = (zeros_long, h.few_pages, h.few_cores, omega (arith, h.long)); by_index = core_linked _ e.args.m.now e.requires.0 }
+mark_cores-named-requires c = let h = header _ _ c.requires.m_value in record { s_len = (zeros_long, h.few_pages, h.few_cores, omega (arith, h.long)); by_index = core_linked _ c.args.m.now c.requires.m_value }
 
 pub pass-seconds-requires : goal.pass-seconds-requires
 pass-seconds-requires c = let h = header _ _ c.requires.m_value in record { s_len = (marked_long c.mark_cores-named.ensures ∙ zeros_long, h.few_pages, omega arith); m_len = h.bytes }
@@ -25,13 +25,12 @@ pub pass-datas-requires : goal.pass-datas-requires
 pass-datas-requires c = let h = header _ _ c.requires.m_value in record { s_len = (marked_long c.pass-seconds.ensures ∙ marked_long c.mark_cores-named.ensures ∙ zeros_long, h.few_pages, omega arith); m_len = h.bytes }
 
 pub write_map-requires : goal.write_map-requires
-write_map-requires c = let e = c in let h = header _ _ e.requires.0 in (marked_long c.pass-datas.ensures ∙ marked_long c.pass-seconds.ensures ∙ marked_long c.mark_cores-named.ensures ∙ zeros_long, h.few_pages, e.requires.1)
+write_map-requires c = let h = header _ _ c.requires.m_value in (marked_long c.pass-datas.ensures ∙ marked_long c.pass-seconds.ensures ∙ marked_long c.mark_cores-named.ensures ∙ zeros_long, h.few_pages, c.requires.map_len)
 
 pub returns : goal.returns
 returns c =
-    let e = c in
-    let words : Words e.args.t.now = λ i. omega (arith, c.type_inv.t i) in
-    let bytes : Bytes e.args.m.now = λ i. omega (arith, c.type_inv.m i) in (
-      filled_beyond e.args.t.now e.args.m.now e.args.group e.requires.0 words bytes zeros zeros_long zeros_blank _ _ _ _ _ _ c.mark_cores-named.ensures c.pass-seconds.ensures c.pass-datas.ensures,
-      filled_map e.args.t.now e.args.m.now e.args.group e.requires.0 words bytes zeros zeros_long zeros_blank _ _ _ _ _ _ c.mark_cores-named.ensures c.pass-seconds.ensures c.pass-datas.ensures _ c.write_map.ensures,
+    let words : Words c.args.t.now = λ i. omega (arith, c.type_inv.t i) in
+    let bytes : Bytes c.args.m.now = λ i. omega (arith, c.type_inv.m i) in (
+      filled_beyond c.args.t.now c.args.m.now c.args.group c.requires.m_value words bytes zeros zeros_long zeros_blank _ _ _ _ _ _ c.mark_cores-named.ensures c.pass-seconds.ensures c.pass-datas.ensures,
+      filled_map c.args.t.now c.args.m.now c.args.group c.requires.m_value words bytes zeros zeros_long zeros_blank _ _ _ _ _ _ c.mark_cores-named.ensures c.pass-seconds.ensures c.pass-datas.ensures _ c.write_map.ensures,
     )

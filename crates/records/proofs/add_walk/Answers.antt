@@ -10,7 +10,7 @@ pub returns-then-holds_walk : goal.returns-then-holds_walk
 returns-then-holds_walk c = add_held _ _ (sym c.holds_walk.ensures ∙ c.if-holds_walk.true)
 
 pub insert-requires : goal.insert-requires
-insert-requires c = let p = c.requires in record { b_len = p.0; at_bound = omega arith; free_head_bound = (head_of _ p.0 p.1).2 }
+insert-requires c = let p = c.requires in record { b_len = p.b_len; at_bound = omega arith; free_head_bound = (head_of _ p.b_len p.b_value).2 }
 
 pub returns : goal.returns
 returns c = c.insert.ensures ∙ add_new _ _ (sym c.holds_walk.ensures ∙ c.if-holds_walk.false)

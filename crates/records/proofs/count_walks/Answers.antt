@@ -7,7 +7,7 @@ use Rattle.records.proofs.Along.{walks_small}
 use Rattle.records.proofs.count_walks.Goals as goal
 
 pub chain_length-requires : goal.chain_length-requires
-chain_length-requires c = let p = c.requires in record { b_len = p.0; head_bound = omega arith; head_value = walks_small _ p.0 p.1 }
+chain_length-requires c = let p = c.requires in record { b_len = p.b_len; head_bound = omega arith; head_value = walks_small _ p.b_len p.b_value }
 
 pub returns : goal.returns
 returns c = c.chain_length.ensures ∙ sym (walks_length _)

@@ -5,7 +5,7 @@ use Rattle.records.proofs.Along.{walks_small}
 use Rattle.records.proofs.holds_walk.Goals as goal
 
 pub walk_from-requires : goal.walk_from-requires
-walk_from-requires c = let p = c.requires in record { b_len = p.0; start_value = walks_small _ p.0 p.1 }
+walk_from-requires c = let p = c.requires in record { b_len = p.b_len; start_value = walks_small _ p.b_len p.b_value }
 
 pub returns : goal.returns
 unfolding walks

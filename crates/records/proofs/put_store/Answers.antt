@@ -8,7 +8,7 @@ use Rattle.records.proofs.Along.{head_of, store_chain, end_low}
 use Rattle.records.proofs.put_store.Goals as goal
 
 pub insert-requires : goal.insert-requires
-insert-requires c = let p = c.requires in record { b_len = p.0; at_bound = omega (arith, end_low (store_chain _ p.0 p.1) (omega arith), c.stores_end-at.ensures); free_head_bound = (head_of _ p.0 p.1).2 }
+insert-requires c = let p = c.requires in record { b_len = p.b_len; at_bound = omega (arith, end_low (store_chain _ p.b_len p.b_value) (omega arith), c.stores_end-at.ensures); free_head_bound = (head_of _ p.b_len p.b_value).2 }
 
 pub returns : goal.returns
 unfolding put_store

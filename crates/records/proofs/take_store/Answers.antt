@@ -7,7 +7,7 @@ use Rattle.records.proofs.Along.{head_of}
 use Rattle.records.proofs.take_store.Goals as goal
 
 pub release-requires : goal.release-requires
-release-requires c = let p = c.requires in record { b_len = p.0; at_bound = omega arith; at_bound_2 = (head_of _ p.0 p.1).0 }
+release-requires c = let p = c.requires in record { b_len = p.b_len; at_bound = omega arith; at_bound_2 = (head_of _ p.b_len p.b_value).0 }
 
 pub returns : goal.returns
 unfolding take_store

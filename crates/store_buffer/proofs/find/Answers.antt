@@ -8,7 +8,7 @@ low : (c : In-loop-n) → c.loop-n.n < 32
 low c = passing_low c.loop-n.invariant
 
 pub loop-n-init : goal.loop-n-init
-loop-n-init c = let p = c.requires in passing_start _ _ _ p.0 p.1.0
+loop-n-init c = let p = c.requires in passing_start _ _ _ p.b_len p.b_value
 
 pub overflow_cast-i : goal.overflow_cast-i
 overflow_cast-i c = omega (arith, low (goal.at.overflow_cast-i c).In-loop-n)
@@ -54,5 +54,4 @@ loop-n-preserved c = passing_next c.loop-n.invariant c.loop-n-test.true c.found_
 
 pub returns : goal.returns
 returns c =
-    let e = c in
     passing_end c.loop-n.invariant c.loop-n-test.false (λ m. omega (arith, c.type_inv.b m)) (omega arith) (omega arith)

@@ -16,37 +16,31 @@ ports e = ports_of e.args.b.now e.args.select e.args.window
 
 pub find-f-requires : goal.find-f-requires
 find-f-requires c =
-    let e = c in
-    record { b_len = e.requires.0; b_value = (parts_of _ _ e.requires.1.0).0; d_nonzero = (aligned_word _ _ e.requires.1.1).some }
+    record { b_len = c.requires.b_len; b_value = (parts_of _ _ c.requires.b_value).0; d_nonzero = (aligned_word _ _ c.requires.d_value).some }
 
 pub forwarded-requires : goal.forwarded-requires
 forwarded-requires c =
-    let e = c in
     let f = sym c.in-One.is ∙ c.find-f.ensures in
-    let w = aligned_word _ _ e.requires.1.1 in
-    let words : (m : ℕ) → get_or e.args.b.now m 0 < 2 ^ 32 = λ m. omega (arith, c.type_inv.b m) in
-    record { b_len = e.requires.0; number_bound = one_low e.args.b.now e.args.a e.args.d (ports e) e.args.memory.now (omega arith) w e.requires.0 e.requires.1.0 words _ _ f; number_bound_2 = one_near e.args.b.now e.args.a e.args.d (ports e) e.args.memory.now (omega arith) w e.requires.0 e.requires.1.0 words _ _ f; d_value = aligned_sized _ _ e.requires.1.1 }
+    let w = aligned_word _ _ c.requires.d_value in
+    let words : (m : ℕ) → get_or c.args.b.now m 0 < 2 ^ 32 = λ m. omega (arith, c.type_inv.b m) in
+    record { b_len = c.requires.b_len; number_bound = one_low c.args.b.now c.args.a c.args.d (ports c) c.args.memory.now (omega arith) w c.requires.b_len c.requires.b_value words _ _ f; number_bound_2 = one_near c.args.b.now c.args.a c.args.d (ports c) c.args.memory.now (omega arith) w c.requires.b_len c.requires.b_value words _ _ f; d_value = aligned_sized _ _ c.requires.d_value }
 
 pub returns-in-There : goal.returns-in-There
 returns-in-There c =
-    let e = c in
     ap (on_read Miss) (sym c.in-There.is)
-    ∙ load_beneath e.args.b.now e.args.a e.args.d (ports e) e.args.memory.now (omega arith) (aligned_word _ _ e.requires.1.1) (sym c.in-Nothing.is ∙ c.find-f.ensures) c.read_beneath-r.ensures
+    ∙ load_beneath c.args.b.now c.args.a c.args.d (ports c) c.args.memory.now (omega arith) (aligned_word _ _ c.requires.d_value) (sym c.in-Nothing.is ∙ c.find-f.ensures) c.read_beneath-r.ensures
 
 pub returns-in-Nowhere : goal.returns-in-Nowhere
 returns-in-Nowhere c =
-    let e = c in
     ap (on_read Miss) (sym c.in-Nowhere.is)
-    ∙ load_beneath e.args.b.now e.args.a e.args.d (ports e) e.args.memory.now (omega arith) (aligned_word _ _ e.requires.1.1) (sym c.in-Nothing.is ∙ c.find-f.ensures) c.read_beneath-r.ensures
+    ∙ load_beneath c.args.b.now c.args.a c.args.d (ports c) c.args.memory.now (omega arith) (aligned_word _ _ c.requires.d_value) (sym c.in-Nothing.is ∙ c.find-f.ensures) c.read_beneath-r.ensures
 
 pub returns-in-One : goal.returns-in-One
 returns-in-One c =
-    let e = c in
     let f = sym c.in-One.is ∙ c.find-f.ensures in
-    load_one e.args.b.now e.args.a e.args.d (ports e) e.args.memory.now (omega arith) (aligned_word _ _ e.requires.1.1) e.requires.0 e.requires.1.0
+    load_one c.args.b.now c.args.a c.args.d (ports c) c.args.memory.now (omega arith) (aligned_word _ _ c.requires.d_value) c.requires.b_len c.requires.b_value
     (λ m. omega (arith, c.type_inv.b m)) _ _ f c.forwarded.ensures
 
 pub returns-in-Mixed : goal.returns-in-Mixed
 returns-in-Mixed c =
-    let e = c in
-    load_mixed e.args.b.now e.args.a e.args.d (ports e) e.args.memory.now (omega arith) (aligned_word _ _ e.requires.1.1) (sym c.in-Mixed.is ∙ c.find-f.ensures)
+    load_mixed c.args.b.now c.args.a c.args.d (ports c) c.args.memory.now (omega arith) (aligned_word _ _ c.requires.d_value) (sym c.in-Mixed.is ∙ c.find-f.ensures)

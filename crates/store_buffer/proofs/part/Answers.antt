@@ -14,5 +14,4 @@ returns-then-d-eq2 c = ap (λ (u : ℕ). u % 65536) (c.shift_right-u.ensures ∙
 
 pub returns : goal.returns
 returns c =
-    let p = c in
-    c.shift_right-u.ensures ∙ shifted _ _ p.requires.0 ∙ sym (part_all p.args.v p.args.k p.args.d (omega arith) p.requires.1 c.if-d-eq1.false c.if-d-eq2.false)
+    c.shift_right-u.ensures ∙ shifted _ _ c.requires.k_bound ∙ sym (part_all c.args.v c.args.k c.args.d (omega arith) c.requires.d_value c.if-d-eq1.false c.if-d-eq2.false)

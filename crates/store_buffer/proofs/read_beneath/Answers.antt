@@ -32,8 +32,7 @@ part-requires c = record { k_bound = omega arith; d_value = aligned_sized _ _ c.
 
 pub returns-then-is_local_port : goal.returns-then-is_local_port
 returns-then-is_local_port c =
-    let e = c in
-    ap There c.part.ensures ∙ sym (reads_local e.args.a e.args.d (omega arith) (aligned_word _ _ e.requires.1) e.args.b.now e.args.memory.now e.args.select e.args.window (sym c.is_local_port.ensures ∙ c.if-is_local_port.true))
+    ap There c.part.ensures ∙ sym (reads_local c.args.a c.args.d (omega arith) (aligned_word _ _ c.requires.d_value) c.args.b.now c.args.memory.now c.args.select c.args.window (sym c.is_local_port.ensures ∙ c.if-is_local_port.true))
 
 pub overflow_sub-at-then-is_io_port : goal.overflow_sub-at-then-is_io_port
 overflow_sub-at-then-is_io_port c = (io_range _ (sym c.is_io_port.ensures ∙ c.if-is_io_port.true)).0
@@ -43,18 +42,15 @@ part-requires-then-at-lt4 c = record { k_bound = omega arith; d_value = aligned_
 
 pub returns-then-at-lt4 : goal.returns-then-at-lt4
 returns-then-at-lt4 c =
-    let e = c in
-    ap There (c.part-then-at-lt4.ensures ∙ io_select e c.if-at-lt4.true) ∙ sym (reads_io e.args.a e.args.d (omega arith) (aligned_word _ _ e.requires.1) e.args.b.now e.args.memory.now e.args.select e.args.window (sym c.is_local_port.ensures ∙ c.if-is_local_port.false) (sym c.is_io_port.ensures ∙ c.if-is_io_port.true))
+    ap There (c.part-then-at-lt4.ensures ∙ io_select c c.if-at-lt4.true) ∙ sym (reads_io c.args.a c.args.d (omega arith) (aligned_word _ _ c.requires.d_value) c.args.b.now c.args.memory.now c.args.select c.args.window (sym c.is_local_port.ensures ∙ c.if-is_local_port.false) (sym c.is_io_port.ensures ∙ c.if-is_io_port.true))
 
 pub part-requires-then-is_io_port : goal.part-requires-then-is_io_port
 part-requires-then-is_io_port c = record { k_bound = omega arith; d_value = aligned_sized _ _ c.requires.d_value }
 
 pub returns-then-is_io_port : goal.returns-then-is_io_port
 returns-then-is_io_port c =
-    let e = c in
-    ap There (c.part-then-is_io_port.ensures ∙ io_window e c.if-at-lt4.false) ∙ sym (reads_io e.args.a e.args.d (omega arith) (aligned_word _ _ e.requires.1) e.args.b.now e.args.memory.now e.args.select e.args.window (sym c.is_local_port.ensures ∙ c.if-is_local_port.false) (sym c.is_io_port.ensures ∙ c.if-is_io_port.true))
+    ap There (c.part-then-is_io_port.ensures ∙ io_window c c.if-at-lt4.false) ∙ sym (reads_io c.args.a c.args.d (omega arith) (aligned_word _ _ c.requires.d_value) c.args.b.now c.args.memory.now c.args.select c.args.window (sym c.is_local_port.ensures ∙ c.if-is_local_port.false) (sym c.is_io_port.ensures ∙ c.if-is_io_port.true))
 
 pub returns : goal.returns
 returns c =
-    let e = c in
-    c.read_memory.ensures ∙ sym (reads_memory e.args.a e.args.d (omega arith) (aligned_word _ _ e.requires.1) e.args.b.now e.args.memory.now e.args.select e.args.window (sym c.is_local_port.ensures ∙ c.if-is_local_port.false) (sym c.is_io_port.ensures ∙ c.if-is_io_port.false))
+    c.read_memory.ensures ∙ sym (reads_memory c.args.a c.args.d (omega arith) (aligned_word _ _ c.requires.d_value) c.args.b.now c.args.memory.now c.args.select c.args.window (sym c.is_local_port.ensures ∙ c.if-is_local_port.false) (sym c.is_io_port.ensures ∙ c.if-is_io_port.false))

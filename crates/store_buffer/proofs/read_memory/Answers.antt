@@ -15,15 +15,13 @@ word c = aligned_word _ _ c.requires
 pub returns-then-memory-at : goal.returns-then-memory-at
 returns-then-memory-at c =
     let w = word (goal.at.returns-then-memory-at c).After-shared_slice_known-1 in
-    let e = c in
-    sym (memory_beyond e.args.memory.now e.args.a e.args.d (omega (arith, w.within, w.some)) w.some c.if-memory-at.true)
+    sym (memory_beyond c.args.memory.now c.args.a c.args.d (omega (arith, w.within, w.some)) w.some c.if-memory-at.true)
 
 pub returns-then-d-eq4 : goal.returns-then-d-eq4
 returns-then-d-eq4 c =
     let w = word (goal.at.returns-then-d-eq4 c).After-shared_slice_known-1 in
-    let e = c in
-    ap There (c.read_word.ensures ∙ ap (λ (n : ℕ). bytes_at n e.args.memory.now e.args.a) (sym c.if-d-eq4.true))
-    ∙ sym (memory_there e.args.memory.now e.args.a e.args.d (omega (arith, w.within, w.some)) c.if-memory-at.false)
+    ap There (c.read_word.ensures ∙ ap (λ (n : ℕ). bytes_at n c.args.memory.now c.args.a) (sym c.if-d-eq4.true))
+    ∙ sym (memory_there c.args.memory.now c.args.a c.args.d (omega (arith, w.within, w.some)) c.if-memory-at.false)
 
 pub read-requires : goal.read-requires
 read-requires c = let w = word (goal.at.read-requires c).After-shared_slice_known-1 in (omega arith, omega (arith, w.within))
@@ -31,5 +29,4 @@ read-requires c = let w = word (goal.at.read-requires c).After-shared_slice_know
 pub returns : goal.returns
 returns c =
     let w = word (goal.at.returns c).After-shared_slice_known-1 in
-    let e = c in
-    ap There c.read.ensures ∙ sym (memory_there e.args.memory.now e.args.a e.args.d (omega (arith, w.within, w.some)) c.if-memory-at.false)
+    ap There c.read.ensures ∙ sym (memory_there c.args.memory.now c.args.a c.args.d (omega (arith, w.within, w.some)) c.if-memory-at.false)

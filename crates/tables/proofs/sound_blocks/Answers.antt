@@ -12,19 +12,17 @@ loop-k-init c = (omega arith, refl)
 
 pub returns-then-not-sound_block : goal.returns-then-not-sound_block
 returns-then-not-sound_block c =
-    let l = c in
-    ap (λ (r : Bool). r && sound_blocks (l.loop.k - 1) l.before.before.args.bytes l.before.before.args.tables.now) (sym (not-true c.sound_block.result c.if-not-sound_block.true))
-    ∙ blocks_step l.loop.k _ _ _ _ c.loop-k-test.true c.block.ensures.0 c.sound_block.ensures
-    ∙ l.loop.invariant.1
+    ap (λ (r : Bool). r && sound_blocks (c.loop-k.k - 1) c.args.bytes c.args.tables.now) (sym (not-true c.sound_block.result c.if-not-sound_block.true))
+    ∙ blocks_step c.loop-k.k _ _ _ _ c.loop-k-test.true c.block.ensures.0 c.sound_block.ensures
+    ∙ c.loop-k.invariant.1
 
 pub loop-k-preserved : goal.loop-k-preserved
-loop-k-preserved c =
-    let l = c in (
-      omega arith,
-      ap (λ (r : Bool). r && sound_blocks (l.loop.k - 1) l.before.before.args.bytes l.before.before.args.tables.now) (sym (not-false c.sound_block.result c.if-not-sound_block.false))
-          ∙ blocks_step l.loop.k _ _ _ _ c.loop-k-test.true c.block.ensures.0 c.sound_block.ensures
-          ∙ l.loop.invariant.1,
-    )
+loop-k-preserved c = (
+  omega arith,
+  ap (λ (r : Bool). r && sound_blocks (c.loop-k.k - 1) c.args.bytes c.args.tables.now) (sym (not-false c.sound_block.result c.if-not-sound_block.false))
+      ∙ blocks_step c.loop-k.k _ _ _ _ c.loop-k-test.true c.block.ensures.0 c.sound_block.ensures
+      ∙ c.loop-k.invariant.1,
+)
 
 pub returns : goal.returns
 returns c = sym (blocks_none _ _ _ c.loop-k-test.false) ∙ c.loop-k.invariant.1

@@ -7,10 +7,10 @@ use Rattle.text.proofs.put_decimal.Goals as goal
 
 pub put-requires : goal.put-requires
 put-requires c = let h : c.args.n < 2 ^ 64 = omega arith in
-    let d = c.type_inv.digits.ensures in
-    omega (arith, ap length (numbered _ _ h d.1.1 d.1.0))
+    let d = c.decimal-k.ensures in
+    omega (arith, ap length (numbered _ _ h d.digits d.len))
 
 pub returns : goal.returns
 returns c = let h : c.args.n < 2 ^ 64 = omega arith in
-    let d = c.type_inv.digits.ensures in
-    reworded (numbered _ _ h d.1.1 d.1.0) c.put.ensures
+    let d = c.decimal-k.ensures in
+    reworded (numbered _ _ h d.digits d.len) c.put.ensures

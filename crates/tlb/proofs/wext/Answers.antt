@@ -6,7 +6,7 @@ use Rattle.tlb.proofs.Fields.{wext_parts, wext_absent, incomplete_level}
 use Rattle.tlb.proofs.wext.Goals as goal
 
 pub overflow_sub-level : goal.overflow_sub-level
-overflow_sub-level c = let n = c in omega (arith, c.level.ensures, incomplete_level n.args.w n.requires)
+overflow_sub-level c = omega (arith, c.level.ensures, incomplete_level c.args.w c.requires)
 
 pub returns-then-present : goal.returns-then-present
 returns-then-present c = c.walk_of.ensures ∙ wext_parts _ _ (sym c.present.ensures ∙ c.if-present.true) c.va.ensures c.asid.ensures c.level.ensures c.entry_rights.ensures

@@ -11,7 +11,7 @@ pub asid-asid-requires : goal.asid-asid-requires
 asid-asid-requires c = c.requires.b_len.0
 
 pub loop-i-init : goal.loop-i-init
-loop-i-init c = let e = c in fill_start _ _ _ e.requires.0.2 e.requires.1
+loop-i-init c = fill_start _ _ _ c.requires.b_len.2 c.requires.cached
 
 pub offset_bounds-addresses-i : goal.offset_bounds-addresses-i
 offset_bounds-addresses-i c = omega (arith, c.requires.b_len.1)

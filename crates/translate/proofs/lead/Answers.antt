@@ -8,7 +8,7 @@ use Rattle.translate.proofs.Leading.{at_entry, at_asked, again, lead_start, lead
 use Rattle.translate.proofs.lead.Goals as goal
 
 pub loop-left-init : goal.loop-left-init
-loop-left-init c = let e = c in lead_start e.requires.0 e.requires.1.1
+loop-left-init c = lead_start c.requires.cached c.requires.n_bound.1
 
 pub entry-got-requires : goal.entry-got-requires
 entry-got-requires c = let l = c.loop-left in record { cached = l.invariant.kept; n_bound = omega (arith, l.invariant.room, c.requires.n_bound.0) }
@@ -23,7 +23,7 @@ pub shape_of-slots-in_default : goal.shape_of-slots-in_default
 shape_of-slots-in_default c = c.entry-got.ensures.asked.kept.slots_long ∙ sym c.requires.cached.slots_long
 
 pub returns-in_default : goal.returns-in_default
-returns-in_default c = let l = c.loop-left in let g = c.entry-got.ensures in let q = c.ptea.ensures in let h = at_entry _ _ _ q g.0 c.in_default.is in record { to_value = lead_beyond l.left (l.left - 1) (omega arith) l.invariant h; asked = asked_to_beyond l.left (l.left - 1) (omega arith) l.invariant (at_asked _ _ _ q g.1) h }
+returns-in_default c = let l = c.loop-left in let g = c.entry-got.ensures in let q = c.ptea.ensures in let h = at_entry _ _ _ q g.result_value c.in_default.is in record { to_value = lead_beyond l.left (l.left - 1) (omega arith) l.invariant h; asked = asked_to_beyond l.left (l.left - 1) (omega arith) l.invariant (at_asked _ _ _ q g.asked) h }
 
 pub shape_of-keys-then-not-present : goal.shape_of-keys-then-not-present
 shape_of-keys-then-not-present c = c.entry-got.ensures.asked.kept.keys_long ∙ sym c.requires.cached.keys_long
@@ -35,13 +35,13 @@ pub shape_of-slots-then-not-present : goal.shape_of-slots-then-not-present
 shape_of-slots-then-not-present c = c.entry-got.ensures.asked.kept.slots_long ∙ sym c.requires.cached.slots_long
 
 pub returns-then-not-present : goal.returns-then-not-present
-returns-then-not-present c = let l = c.loop-left in let g = c.entry-got.ensures in let q = c.ptea.ensures in let h = at_entry _ _ _ q g.0 c.in-Word.is in let p = sym c.present.ensures ∙ not-true _ c.if-not-present.true in record { to_value = lead_absent l.left (l.left - 1) (omega arith) l.invariant _ h p; asked = asked_to_absent l.left (l.left - 1) (omega arith) l.invariant (at_asked _ _ _ q g.1) _ h p }
+returns-then-not-present c = let l = c.loop-left in let g = c.entry-got.ensures in let q = c.ptea.ensures in let h = at_entry _ _ _ q g.result_value c.in-Word.is in let p = sym c.present.ensures ∙ not-true _ c.if-not-present.true in record { to_value = lead_absent l.left (l.left - 1) (omega arith) l.invariant _ h p; asked = asked_to_absent l.left (l.left - 1) (omega arith) l.invariant (at_asked _ _ _ q g.asked) _ h p }
 
 pub wext-w-requires : goal.wext-w-requires
 wext-w-requires c = let l = c.loop-left in ne_eqb (walk_level l.w) 0 (λ z. omega (arith, l.invariant.level))
 
 pub loop-left-preserved : goal.loop-left-preserved
-loop-left-preserved c = let l = c.loop-left in let g = c.entry-got.ensures in let q = c.ptea.ensures in let h = at_entry _ _ _ q g.0 c.in-Word.is in let p = sym c.present.ensures ∙ not-false _ c.if-not-present.false in again c.wext-w.ensures (lead_next l.left (l.left - 1) (omega arith) l.invariant (at_asked _ _ _ q g.1) _ h p)
+loop-left-preserved c = let l = c.loop-left in let g = c.entry-got.ensures in let q = c.ptea.ensures in let h = at_entry _ _ _ q g.result_value c.in-Word.is in let p = sym c.present.ensures ∙ not-false _ c.if-not-present.false in again c.wext-w.ensures (lead_next l.left (l.left - 1) (omega arith) l.invariant (at_asked _ _ _ q g.asked) _ h p)
 
 pub shape_of-keys : goal.shape_of-keys
 shape_of-keys c = c.loop-left.invariant.kept.keys_long ∙ sym c.requires.cached.keys_long

@@ -7,8 +7,7 @@ use Rattle.vector_register.proofs.mark.Goals as goal
 
 pub put_vector-requires : goal.put_vector-requires
 put_vector-requires c =
-    let e = c in
-    record { place_bound = e.requires.0; v_bound = (ltb-true _ _ (ap is_vector (sym c.in-Vector.is) ∙ e.requires.1.0), e.requires.1.1) }
+    record { place_bound = c.requires.place_bound; v_bound = (ltb-true _ _ (ap is_vector (sym c.in-Vector.is) ∙ c.requires.f_value.0), c.requires.f_value.1) }
 
 pub returns-in-Vector : goal.returns-in-Vector
 returns-in-Vector c =

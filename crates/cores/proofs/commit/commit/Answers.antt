@@ -8,17 +8,15 @@ use Rattle.cores.proofs.commit.commit.Goals as goal
 
 pub on_block-requires : goal.on_block-requires
 on_block-requires c =
-    let s = c in
-    let a = s.before.before.before.args in
-    let p = s.before.before.before.requires in
-    let q = part a.t.now a.k s.block_at_lem.result s.block_at_lem.ensures in
-    record { b_len = ap length q ∙ block_long a.t.now a.k p.0; b_value = ap linked q ∙ p.1.0; b_value_2 = ap (ready a.p) q ∙ p.1.1.1 }
+    let a = c.args in
+    let p = c.requires in
+    let q = part a.t.now a.k c.block_at-a.result c.block_at-a.ensures in
+    record { b_len = ap length q ∙ block_long a.t.now a.k p.k_in_bounds; b_value = ap linked q ∙ p.k_value; b_value_2 = ap (ready a.p) q ∙ p.k_value_2 }
 
 pub returns : goal.returns
 unfolding tables_by_plan
 returns c =
-    let i = c in
-    let s = i.before.before in
+    let s = c in
     let a = s.before.before.before.args in
     let d = c.beyond_block.ensures in
-    record { t_after = d.0 ∙ ap (header_after a.p.write) (part_done a.t.now a.k s.block_at_lem.result s.block_at_lem.ensures (block_after a.p) i.on_block_lem.new.0 i.on_block_lem.ensures); m_after = d.1 }
+    record { t_after = d.t_after ∙ ap (header_after a.p.write) (part_done a.t.now a.k s.block_at_lem.result s.block_at_lem.ensures (block_after a.p) c.on_block.new.0 c.on_block.ensures); m_after = d.m_after }

@@ -16,14 +16,13 @@ loop-j-init c = (omega arith, (refl, refl))
 
 pub loop-j-preserved : goal.loop-j-preserved
 loop-j-preserved c =
-    let s = c in
-    let l = s.before.before.loop in
-    let a = s.before.before.before.before.args in
+    let l = c.loop-j in
+    let a = c.args in
     let f : ℕ → List ℕ → List ℕ = λ j b. received_by a.m (eqb j a.i) b in (
       omega arith,
       (
         omega arith,
-        part_done l.t l.j s.block_at_lem.result s.block_at_lem.ensures (f l.j) c.receive.new.0 c.receive.ensures
+        part_done l.t l.j c.block_at-a.result c.block_at-a.ensures (f l.j) c.receive.new.0 c.receive.ensures
             ∙ ap (on_block (f l.j) l.j) l.invariant.1.1
             ∙ sym (one_more_block f l.j a.t.now),
       ),

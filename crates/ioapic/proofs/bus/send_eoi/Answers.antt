@@ -11,8 +11,7 @@ use Rattle.ioapic.proofs.bus.send_eoi.Goals as goal
 pub returns : goal.returns
 unfolding send_eoi
 returns c =
-    let i = c in
-    let s = i.before.before in
+    let s = c in
     let a = s.before.before.args in
     c.end.ensures
-    ∙ ap (λ (t : List ℕ). eoi_received t a.v) (part_done a.t.now a.i s.block_at_lem.result s.block_at_lem.ensures (λ (b : List ℕ). eoi_sent b a.v) i.eoi-sent.new.0 i.eoi-sent.ensures)
+    ∙ ap (λ (t : List ℕ). eoi_received t a.v) (part_done a.t.now a.i s.block_at_lem.result s.block_at_lem.ensures (λ (b : List ℕ). eoi_sent b a.v) c.eoi_sent.new.0 c.eoi_sent.ensures)

@@ -8,8 +8,7 @@ use Rattle.ioapic.proofs.bus.send_ipi.Goals as goal
 pub returns : goal.returns
 unfolding send_ipi
 returns c =
-    let i = c in
-    let s = i.before.before in
+    let s = c in
     let a = s.before.before.args in
     c.broadcast.ensures
-    ∙ ap (broadcast a.n a.i a.m) (part_done a.t.now a.i s.block_at_lem.result s.block_at_lem.ensures idle i.idle.new.0 i.idle.ensures)
+    ∙ ap (broadcast a.n a.i a.m) (part_done a.t.now a.i s.block_at_lem.result s.block_at_lem.ensures idle c.idle.new.0 c.idle.ensures)

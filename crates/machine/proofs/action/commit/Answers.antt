@@ -23,14 +23,12 @@ send_eoi-requires c = let f = eoi_asks (cores_of c.args.t.now) (length c.args.m.
 
 pub slice_bounds-init_core-end : goal.slice_bounds-init_core-end
 slice_bounds-init_core-end c =
-    let s = c in
-    let h = has s.args.t.now (length s.args.m.now) s.pre.0 _ (init_asks (cores_of s.args.t.now) (length s.args.m.now) s.args.t.now s.pre.1.0 _ c.in-InitCore.is) in
+    let h = has c.args.t.now (length c.args.m.now) c.pre.0 _ (init_asks (cores_of c.args.t.now) (length c.args.m.now) c.args.t.now c.pre.1.0 _ c.in-InitCore.is) in
     omega arith
 
 pub slice_bounds-start_core-end : goal.slice_bounds-start_core-end
 slice_bounds-start_core-end c =
-    let s = c in
-    let h = has s.args.t.now (length s.args.m.now) s.pre.0 _ (start_asks (cores_of s.args.t.now) (length s.args.m.now) s.args.t.now s.pre.1.0 _ c.in-StartCore.is) in
+    let h = has c.args.t.now (length c.args.m.now) c.pre.0 _ (start_asks (cores_of c.args.t.now) (length c.args.m.now) c.args.t.now c.pre.1.0 _ c.in-StartCore.is) in
     omega arith
 
 pub sample-requires : goal.sample-requires
@@ -60,16 +58,14 @@ returns-in-SendEoi c = record { t_after = c.send_eoi.ensures ∙ rw c.in-SendEoi
 pub returns-in-InitCore : goal.returns-in-InitCore
 unfolding tables_after memory_after
 returns-in-InitCore c =
-    let b = c in
-    let q = b.before.before.a3.given.1 in
-    record { t_after = part_done b.before.before.before.before.before.before.before.args.t.now _ b.block_at_lem.result b.block_at_lem.ensures init_core c.init_core.last.0 c.init_core.ensures ∙ rw q refl; m_after = rw q refl }
+    let q = c.in-InitCore.is in
+    record { t_after = part_done c.args.t.now _ c.block_at-at.result c.block_at-at.ensures init_core c.init_core.last.0 c.init_core.ensures ∙ rw q refl; m_after = rw q refl }
 
 pub returns-in-StartCore : goal.returns-in-StartCore
 unfolding tables_after memory_after
 returns-in-StartCore c =
-    let b = c in
-    let q = b.before.before.a4.given.1 in
-    record { t_after = part_done b.before.before.before.before.before.before.before.args.t.now _ b.block-at2.result b.block-at2.ensures start_core c.start_core.last.0 c.start_core.ensures ∙ rw q refl; m_after = rw q refl }
+    let q = c.in-StartCore.is in
+    record { t_after = part_done c.args.t.now _ c.block_at-at-in-StartCore.result c.block_at-at-in-StartCore.ensures start_core c.start_core.last.0 c.start_core.ensures ∙ rw q refl; m_after = rw q refl }
 
 pub returns-in-Sample : goal.returns-in-Sample
 unfolding tables_after memory_after

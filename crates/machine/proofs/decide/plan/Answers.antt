@@ -38,9 +38,8 @@ no_plan s q f = absurd (true_false (sym s.requires.1.1 ∙ ap is_planned q ∙ f
 
 pub core-requires : goal.core-requires
 core-requires c =
-    let s = c in
-    let f = formed_at s c.in-Core.is in
-    record { k_in_bounds = block_in s _ f; k_value = records_sound s.args.t.now (length s.args.m.now) s.requires.0 _ f; m_len = quarters s.args.t.now (length s.args.m.now) s.requires.0 }
+    let f = formed_at c c.in-Core.is in
+    record { k_in_bounds = block_in c _ f; k_value = records_sound c.args.t.now (length c.args.m.now) c.requires.m_value _ f; m_len = quarters c.args.t.now (length c.args.m.now) c.requires.m_value }
 
 pub block-requires : goal.block-requires
 block-requires c = block_in c _ (create_formed c c.in-TlbCreate.is).0

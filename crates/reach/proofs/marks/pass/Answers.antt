@@ -9,12 +9,11 @@ pub loop-p-init : goal.loop-p-init
 loop-p-init c = (omega arith, loop_start _ _ _)
 
 pub scan_marked-stray-requires : goal.scan_marked-stray-requires
-scan_marked-stray-requires c = let e = c in record { s_len = (marked_long c.loop-p.invariant.1 ∙ e.requires.0.0, e.requires.0.1, e.requires.0.2); m_len = (e.requires.1, c.loop-p-test.true) }
+scan_marked-stray-requires c = record { s_len = (marked_long c.loop-p.invariant.1 ∙ c.requires.s_len.0, c.requires.s_len.1, c.requires.s_len.2); m_len = (c.requires.m_len, c.loop-p-test.true) }
 
 pub loop-p-preserved : goal.loop-p-preserved
 loop-p-preserved c =
-    let e = c in
-    (omega arith, pass_next _ _ _ _ _ _ e.args.kind _ c.loop-p.p e.requires.0.1 e.requires.0.2 c.loop-p-test.true e.requires.0.0 c.loop-p.invariant.1 c.scan_marked-stray.ensures)
+    (omega arith, pass_next _ _ _ _ _ _ c.args.kind _ c.loop-p.p c.requires.s_len.1 c.requires.s_len.2 c.loop-p-test.true c.requires.s_len.0 c.loop-p.invariant.1 c.scan_marked-stray.ensures)
 
 pub shape_of-s : goal.shape_of-s
 shape_of-s c = marked_long c.loop-p.invariant.1

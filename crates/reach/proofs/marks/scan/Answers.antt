@@ -8,13 +8,12 @@ pub loop-i-init : goal.loop-i-init
 loop-i-init c = (omega arith, loop_start _ _ _)
 
 pub mark_four-beyond-requires : goal.mark_four-beyond-requires
-mark_four-beyond-requires c = let e = c in (marked_long c.loop-i.invariant.1 ∙ e.requires.0.0, e.requires.0.1, e.requires.0.2, omega arith)
+mark_four-beyond-requires c = (marked_long c.loop-i.invariant.1 ∙ c.requires.s_len.0, c.requires.s_len.1, c.requires.s_len.2, omega arith)
 
 pub loop-i-preserved : goal.loop-i-preserved
 loop-i-preserved c =
-    let e = c in
     let l = c.loop-i in
-    (omega arith, scan_next _ _ _ _ _ _ _ _ e.args.p l.i e.requires.1.0 e.requires.0.1 e.requires.1.1 c.loop-i-test.true l.invariant.1 c.mark_four-beyond.ensures)
+    (omega arith, scan_next _ _ _ _ _ _ _ _ c.args.p l.i c.requires.m_len.0 c.requires.s_len.1 c.requires.m_len.1 c.loop-i-test.true l.invariant.1 c.mark_four-beyond.ensures)
 
 pub shape_of-s : goal.shape_of-s
 shape_of-s c = marked_long c.loop-i.invariant.1

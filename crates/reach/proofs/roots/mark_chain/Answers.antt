@@ -21,7 +21,7 @@ pub returns-then-n-eq0 : goal.returns-then-n-eq0
 returns-then-n-eq0 c = chain_ends _ _ _ _ _ _ _ _ _ c.loop-k.invariant c.if-n-eq0.true
 
 pub mark_record-stray-requires : goal.mark_record-stray-requires
-mark_record-stray-requires c = let e = c in (marked_long c.loop-k.invariant.sofar ∙ e.requires.0.0, e.requires.0.1, e.requires.0.2, low (goal.at.mark_record-stray-requires c).Else-n-eq0)
+mark_record-stray-requires c = (marked_long c.loop-k.invariant.sofar ∙ c.requires.s_len.0, c.requires.s_len.1, c.requires.s_len.2, low (goal.at.mark_record-stray-requires c).Else-n-eq0)
 
 pub overflow_cast-n : goal.overflow_cast-n
 overflow_cast-n c = omega (arith, low (goal.at.overflow_cast-n c).Else-n-eq0)

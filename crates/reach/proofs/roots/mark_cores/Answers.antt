@@ -9,7 +9,7 @@ pub loop-k-init : goal.loop-k-init
 loop-k-init c = (omega arith, loop_start _ _ _)
 
 pub mark_core-stray-requires : goal.mark_core-stray-requires
-mark_core-stray-requires c = let p = c.requires in record { s_len = (marked_long c.loop-k.invariant.1 ∙ p.0.0, p.0.1, omega arith); block_words_in_bounds = (omega arith, p.1 c.loop-k.k c.loop-k-test.true) }
+mark_core-stray-requires c = let p = c.requires in record { s_len = (marked_long c.loop-k.invariant.1 ∙ p.s_len.0, p.s_len.1, omega arith); block_words_in_bounds = (omega arith, p.by_index c.loop-k.k c.loop-k-test.true) }
 
 pub loop-k-preserved : goal.loop-k-preserved
 loop-k-preserved c = (omega arith, loop_next _ _ _ _ _ _ _ c.loop-k.k c.loop-k.invariant.1 c.mark_core-stray.ensures)

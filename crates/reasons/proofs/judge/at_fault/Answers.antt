@@ -19,4 +19,4 @@ pub slice_bounds-marked-end : goal.slice_bounds-marked-end
 slice_bounds-marked-end c = sym (room _ (header _ _ c.requires.m_value.0).few_pages)
 
 pub marked-requires : goal.marked-requires
-marked-requires c = let e = c in let h = header _ _ e.requires.0.0 in record { m_value = e.requires.0; own_len = (e.requires.1.0, e.requires.1.1, room _ h.few_pages) }
+marked-requires c = let h = header _ _ c.requires.m_value.0 in record { m_value = c.requires.m_value; own_len = (c.requires.own_len.0, c.requires.own_len.1, room _ h.few_pages) }

@@ -13,4 +13,4 @@ pub returns-then-strays : goal.returns-then-strays
 returns-then-strays c = let a = c.args in c.find.ensures ∙ beyond_is (members a.group (cores_of a.t.now)) a.t.now a.m.now a.map.now
 
 pub returns : goal.returns
-returns c = let e = c in let a = e.args in beyond_none (members a.group (cores_of a.t.now)) a.t.now a.m.now _ e.requires.1.1 c.if-strays.false
+returns c = let a = c.args in beyond_none (members a.group (cores_of a.t.now)) a.t.now a.m.now _ c.requires.strays_value c.if-strays.false

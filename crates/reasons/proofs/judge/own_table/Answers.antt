@@ -9,7 +9,7 @@ use Rattle.reasons.proofs.Reasons.{table_is, map_size}
 use Rattle.reasons.proofs.judge.own_table.Goals as goal
 
 pub at_fault-requires : goal.at_fault-requires
-at_fault-requires c = let e = c in let l = ap length e.requires.1 ∙ map_size (members c.args.group (cores_of c.args.t.now)) e.args.t.now e.args.m.now in record { m_value = (e.requires.0, omega arith, omega arith); own_len = (l, l) }
+at_fault-requires c = let l = ap length c.requires.map_value ∙ map_size (members c.args.group (cores_of c.args.t.now)) c.args.t.now c.args.m.now in record { m_value = (c.requires.m_value, omega arith, omega arith); own_len = (l, l) }
 
 pub returns : goal.returns
-returns c = let e = c in c.at_fault.ensures ∙ table_is (members c.args.group (cores_of c.args.t.now)) e.args.t.now e.args.m.now e.args.map.now e.requires.1
+returns c = c.at_fault.ensures ∙ table_is (members c.args.group (cores_of c.args.t.now)) c.args.t.now c.args.m.now c.args.map.now c.requires.map_value

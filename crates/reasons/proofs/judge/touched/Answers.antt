@@ -9,7 +9,7 @@ use Rattle.reasons.proofs.Reasons.{touch_is, map_size}
 use Rattle.reasons.proofs.judge.touched.Goals as goal
 
 pub at_fault-requires : goal.at_fault-requires
-at_fault-requires c = let e = c in record { m_value = (e.requires.0, omega arith, omega arith); own_len = (ap length e.requires.1.0 ∙ map_size (members c.args.group (cores_of c.args.t.now)) e.args.t.now e.args.m.now, ap length e.requires.1.1 ∙ map_size (members c.args.others (cores_of c.args.t.now)) e.args.t.now e.args.m.now) }
+at_fault-requires c = record { m_value = (c.requires.m_value, omega arith, omega arith); own_len = (ap length c.requires.own_value ∙ map_size (members c.args.group (cores_of c.args.t.now)) c.args.t.now c.args.m.now, ap length c.requires.other_value ∙ map_size (members c.args.others (cores_of c.args.t.now)) c.args.t.now c.args.m.now) }
 
 pub returns : goal.returns
-returns c = let e = c in c.at_fault.ensures ∙ touch_is (members c.args.group (cores_of c.args.t.now)) (members c.args.others (cores_of c.args.t.now)) e.args.t.now e.args.m.now e.args.own.now e.args.other.now e.requires.1.0 e.requires.1.1
+returns c = c.at_fault.ensures ∙ touch_is (members c.args.group (cores_of c.args.t.now)) (members c.args.others (cores_of c.args.t.now)) c.args.t.now c.args.m.now c.args.own.now c.args.other.now c.requires.own_value c.requires.other_value

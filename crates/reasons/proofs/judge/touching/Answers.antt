@@ -9,8 +9,7 @@ use Rattle.reasons.proofs.judge.touching.Goals as goal
 
 pub way_to-requires : goal.way_to-requires
 way_to-requires c =
-    let e = c in
-    record { m_value = e.requires.0; map_len = ap length e.requires.1.0 ∙ map_size (members e.args.group (cores_of e.args.t.now)) e.args.t.now e.args.m.now }
+    record { m_value = c.requires.m_value; map_len = ap length c.requires.own_value ∙ map_size (members c.args.group (cores_of c.args.t.now)) c.args.t.now c.args.m.now }
 
 pub returns-in-Nothing : goal.returns-in-Nothing
 returns-in-Nothing c =

@@ -14,5 +14,4 @@ put-requires c = length-take-le 9 c.args.words.now (omega (arith, c.requires))
 
 pub returns : goal.returns
 returns c =
-    let e = c in
-    both_written e.args.a _ _ e.args.words.now e.requires c.put.ensures c.put_second.ensures
+    both_written c.args.a _ _ c.args.words.now c.requires c.put.ensures c.put_second.ensures

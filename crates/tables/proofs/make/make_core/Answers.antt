@@ -6,6 +6,5 @@ use Rattle.tables.proofs.make.make_core.Goals as goal
 
 pub returns : goal.returns
 returns c =
-    let s = c in
-    part_put s.before.before.args.tables.now s.before.before.args.k s.block_at_lem.result s.block_at_lem.ensures c.make_block.new.0
+    part_put c.args.tables.now c.args.k c.block_at-a.result c.block_at-a.ensures c.make_block.new.0
     ∙ rw c.make_block.ensures

@@ -11,4 +11,4 @@ pub overflow_cast-next : goal.overflow_cast-next
 overflow_cast-next c = omega (arith, c.type_inv.slots c.slot-s.result)
 
 pub returns-then-next-eq0 : goal.returns-then-next-eq0
-returns-then-next-eq0 c = let e = c in free_slot e.args.at _ e.args.n e.args.slots.now (omega (arith, e.requires.0.1)) e.requires.1 (ap (λ (s : ℕ). get_or e.args.slots.now s 0) (sym c.slot-s.ensures) ∙ c.if-next-eq0.true)
+returns-then-next-eq0 c = free_slot c.args.at _ c.args.n c.args.slots.now (omega (arith, c.requires.n_bound.1)) c.requires.slotted (ap (λ (s : ℕ). get_or c.args.slots.now s 0) (sym c.slot-s.ensures) ∙ c.if-next-eq0.true)

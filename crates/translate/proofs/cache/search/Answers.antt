@@ -13,4 +13,4 @@ pub loop-i-preserved : goal.loop-i-preserved
 loop-i-preserved c = let l = c.loop-i in (omega arith, places _ l.i l.invariant.1 c.if-keys-i.false)
 
 pub returns : goal.returns
-returns c = let e = c in let l = c.loop-i in none_among e.args.at _ e.args.n (omega (arith, e.requires.1)) (λ j p. l.invariant.1 j (omega arith))
+returns c = let l = c.loop-i in none_among c.args.at _ c.args.n (omega (arith, c.requires.1)) (λ j p. l.invariant.1 j (omega arith))

@@ -15,4 +15,4 @@ pub bounds-t-1 : goal.bounds-t-1
 bounds-t-1 c = omega (arith, (header _ _ c.requires.m_value).long)
 
 pub from_cores-requires : goal.from_cores-requires
-from_cores-requires c = let e = c in record { m_value = e.requires.0; pages_value = (refl, e.requires.1, length-replicate {A = ℕ} 4096 0); known = blank (wanted e.args.want (pages_of e.args.t.now) e.args.map.now) e.args.m.now Nothing 4096 }
+from_cores-requires c = record { m_value = c.requires.m_value; pages_value = (refl, c.requires.map_len, length-replicate {A = ℕ} 4096 0); known = blank (wanted c.args.want (pages_of c.args.t.now) c.args.map.now) c.args.m.now Nothing 4096 }

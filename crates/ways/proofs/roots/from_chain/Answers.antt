@@ -25,7 +25,7 @@ pub record_way-way-requires : goal.record_way-way-requires
 record_way-way-requires c = (c.requires.b_len.0, low (goal.at.record_way-way-requires c).Else-n-eq0)
 
 pub from_root-found-requires : goal.from_root-found-requires
-from_root-found-requires c = let e = c in let l = c.loop-fuel in record { m_len = (e.requires.0.0, e.requires.0.1, e.requires.0.2, l.invariant.sofar.long ∙ e.requires.0.3); entries_value = ap (λ (v : Way). v.entries) c.record_way-way.ensures; known = l.invariant.sofar.known }
+from_root-found-requires c = let l = c.loop-fuel in record { m_len = (c.requires.m_len.0, c.requires.m_len.1, c.requires.m_len.2, l.invariant.sofar.long ∙ c.requires.m_len.3); entries_value = ap (λ (v : Way). v.entries) c.record_way-way.ensures; known = l.invariant.sofar.known }
 
 pub overflow_cast-n : goal.overflow_cast-n
 overflow_cast-n c = omega (arith, low (goal.at.overflow_cast-n c).Else-n-eq0)
@@ -43,7 +43,7 @@ pub bounds-b-n : goal.bounds-b-n
 bounds-b-n c = omega (arith, low (goal.at.bounds-b-n c).Else-n-eq0, c.requires.b_len.0)
 
 pub loop-fuel-preserved : goal.loop-fuel-preserved
-loop-fuel-preserved c = let e = c in let l = c.loop-fuel in chain_next (wanted c.args.want c.args.pages c.args.map.now) c.args.m.now (record_ways c.args.m.now c.args.b.now c.args.k c.args.store) c.args.b.now c.args.head _ _ _ _ l.n l.fuel l.invariant _ _ e.requires.1.0.2 c.loop-fuel-test.true c.if-n-eq0.false (way_ways (wanted c.args.want c.args.pages c.args.map.now) c.args.m.now e.args.b.now e.args.k e.args.store l.n _ c.record_way-way.ensures c.from_root-found.ensures)
+loop-fuel-preserved c = let l = c.loop-fuel in chain_next (wanted c.args.want c.args.pages c.args.map.now) c.args.m.now (record_ways c.args.m.now c.args.b.now c.args.k c.args.store) c.args.b.now c.args.head _ _ _ _ l.n l.fuel l.invariant _ _ c.requires.b_len.2 c.loop-fuel-test.true c.if-n-eq0.false (way_ways (wanted c.args.want c.args.pages c.args.map.now) c.args.m.now c.args.b.now c.args.k c.args.store l.n _ c.record_way-way.ensures c.from_root-found.ensures)
 
 pub shape_of-seen : goal.shape_of-seen
 shape_of-seen c = c.loop-fuel.invariant.sofar.long

@@ -7,10 +7,10 @@ use Rattle.ways.proofs.Blocks.{core_in, core_out}
 use Rattle.ways.proofs.roots.from_core.Goals as goal
 
 pub from_block-requires : goal.from_block-requires
-from_block-requires c = let e = c in let r = c.block.ensures in record { m_len = e.requires.0; b_len = (r.1, ap linked r.0 ∙ e.requires.1.0.2); known = e.requires.1.1 }
+from_block-requires c = let r = c.block.ensures in record { m_len = c.requires.m_len; b_len = (r.1, ap linked r.0 ∙ c.requires.k_bound.2); known = c.requires.known }
 
 pub returns-then-shift_right-eq1 : goal.returns-then-shift_right-eq1
 returns-then-shift_right-eq1 c = let a = c.args in core_in (wanted c.args.want c.args.pages c.args.map.now) c.args.m.now a.group a.t.now _ a.k _ c.shift_right.ensures c.if-shift_right-eq1.true c.block.ensures.0 c.from_block.ensures
 
 pub returns : goal.returns
-returns c = let e = c in let a = e.args in core_out (wanted c.args.want c.args.pages c.args.map.now) c.args.m.now _ _ a.group a.t.now a.k _ c.shift_right.ensures c.if-shift_right-eq1.false e.requires.1.1
+returns c = let a = c.args in core_out (wanted c.args.want c.args.pages c.args.map.now) c.args.m.now _ _ a.group a.t.now a.k _ c.shift_right.ensures c.if-shift_right-eq1.false c.requires.known

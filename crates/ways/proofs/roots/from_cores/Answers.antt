@@ -14,7 +14,7 @@ pub loop-k-init : goal.loop-k-init
 loop-k-init c = (omega arith, cores_start (wanted c.args.want c.args.pages c.args.map.now) c.args.m.now _ _ _ c.requires.known)
 
 pub from_core-found-requires : goal.from_core-found-requires
-from_core-found-requires c = let e = c in let l = c.loop-k in let h = header _ _ e.requires.0 in record { m_len = (h.bytes ∙ ap (λ (z : ℕ). 4096 * z) (sym e.requires.1.0.0), omega (arith, h.few_pages, e.requires.1.0.0), e.requires.1.0.1, l.invariant.1.long ∙ e.requires.1.0.2); k_bound = (omega (arith, h.few_cores), omega (arith, h.long), core_linked _ c.args.m.now e.requires.0 l.k c.loop-k-test.true); known = l.invariant.1.known }
+from_core-found-requires c = let l = c.loop-k in let h = header _ _ c.requires.m_value in record { m_len = (h.bytes ∙ ap (λ (z : ℕ). 4096 * z) (sym c.requires.pages_value.0), omega (arith, h.few_pages, c.requires.pages_value.0), c.requires.pages_value.1, l.invariant.1.long ∙ c.requires.pages_value.2); k_bound = (omega (arith, h.few_cores), omega (arith, h.long), core_linked _ c.args.m.now c.requires.m_value l.k c.loop-k-test.true); known = l.invariant.1.known }
 
 pub overflow_add-k : goal.overflow_add-k
 overflow_add-k c = omega (arith, (header _ _ c.requires.m_value).few_cores)
@@ -26,4 +26,4 @@ pub shape_of-seen : goal.shape_of-seen
 shape_of-seen c = c.loop-k.invariant.1.long
 
 pub returns : goal.returns
-returns c = let e = c in let l = c.loop-k in cores_end (wanted c.args.want c.args.pages c.args.map.now) c.args.m.now _ _ _ e.args.group e.args.t.now l.k _ (omega arith) l.invariant.1
+returns c = let l = c.loop-k in cores_end (wanted c.args.want c.args.pages c.args.map.now) c.args.m.now _ _ _ c.args.group c.args.t.now l.k _ (omega arith) l.invariant.1

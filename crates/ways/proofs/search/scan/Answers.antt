@@ -7,16 +7,16 @@ use Rattle.ways.proofs.Searches.{hit_taken, hit_left, scan_start, scan_next, sca
 use Rattle.ways.proofs.search.scan.Goals as goal
 
 pub loop-i-init : goal.loop-i-init
-loop-i-init c = let e = c in (omega arith, scan_start _ _ e.requires.0.0 e.requires.0.1 (wanted c.args.want c.args.pages c.args.map.now) _ e.args.way e.requires.1.0)
+loop-i-init c = (omega arith, scan_start _ _ c.requires.m_len.0 c.requires.m_len.1 (wanted c.args.want c.args.pages c.args.map.now) _ c.args.way c.requires.page_bound.0)
 
 pub is_hit-requires : goal.is_hit-requires
-is_hit-requires c = let e = c in (e.requires.0.2, e.requires.1.2)
+is_hit-requires c = (c.requires.m_len.2, c.requires.page_bound.2)
 
 pub take_entry-found-requires : goal.take_entry-found-requires
-take_entry-found-requires c = let e = c in (e.requires.1.1, e.requires.1.2, c.loop-i-test.true)
+take_entry-found-requires c = (c.requires.page_bound.1, c.requires.page_bound.2, c.loop-i-test.true)
 
 pub loop-i-preserved : goal.loop-i-preserved
-loop-i-preserved c = let e = c in let l = c.loop-i in let v = c.read_word-e.result in (omega arith, scan_next _ _ e.requires.0.0 e.requires.0.1 (wanted c.args.want c.args.pages c.args.map.now) _ e.args.way e.requires.1.0 _ _ l.i v c.loop-i-test.true c.read_word-e.ensures l.invariant.1 (⊎_elim (λ w. hit_taken (wanted c.args.want c.args.pages c.args.map.now) e.args.way l.i v l.found _ _ c.is_hit.ensures w.0.taken (w.2 ∙ w.1.ensures)) (λ w. w.1 ∙ hit_left (wanted c.args.want c.args.pages c.args.map.now) e.args.way l.i v l.found _ c.is_hit.ensures w.0.left) c.if-is_hit.branch))
+loop-i-preserved c = let l = c.loop-i in let v = c.read_word-e.result in (omega arith, scan_next _ _ c.requires.m_len.0 c.requires.m_len.1 (wanted c.args.want c.args.pages c.args.map.now) _ c.args.way c.requires.page_bound.0 _ _ l.i v c.loop-i-test.true c.read_word-e.ensures l.invariant.1 (⊎_elim (λ w. hit_taken (wanted c.args.want c.args.pages c.args.map.now) c.args.way l.i v l.found _ _ c.is_hit.ensures w.0.taken (w.2 ∙ w.1.ensures)) (λ w. w.1 ∙ hit_left (wanted c.args.want c.args.pages c.args.map.now) c.args.way l.i v l.found _ c.is_hit.ensures w.0.left) c.if-is_hit.branch))
 
 pub returns : goal.returns
-returns c = let e = c in let l = c.loop-i in scan_end _ _ e.requires.0.0 e.requires.0.1 (wanted c.args.want c.args.pages c.args.map.now) _ e.args.way e.requires.1.0 _ l.i (omega arith) l.invariant.1
+returns c = let l = c.loop-i in scan_end _ _ c.requires.m_len.0 c.requires.m_len.1 (wanted c.args.want c.args.pages c.args.map.now) _ c.args.way c.requires.page_bound.0 _ l.i (omega arith) l.invariant.1

@@ -8,13 +8,13 @@ use Rattle.ways.specs.declared.Way.{Way}
 use Rattle.ways.proofs.search.scan_once.Goals as goal
 
 pub returns-then-is_lowest : goal.returns-then-is_lowest
-returns-then-is_lowest c = let e = c in searched_low (wanted c.args.want c.args.pages c.args.map.now) c.args.m.now e.args.want.low (wanted_from e.args.want e.args.pages e.args.map.now) _ _ _ _ e.requires.1.1 c.is_lowest.ensures c.if-is_lowest.true
+returns-then-is_lowest c = searched_low (wanted c.args.want c.args.pages c.args.map.now) c.args.m.now c.args.want.low (wanted_from c.args.want c.args.pages c.args.map.now) _ _ _ _ c.requires.known c.is_lowest.ensures c.if-is_lowest.true
 
 pub returns-then-seen-at-eq1 : goal.returns-then-seen-at-eq1
-returns-then-seen-at-eq1 c = let e = c in searched_before (wanted c.args.want c.args.pages c.args.map.now) c.args.m.now _ _ e.args.way e.requires.1.1 e.requires.1.0.1 c.if-seen-at-eq1.true
+returns-then-seen-at-eq1 c = searched_before (wanted c.args.want c.args.pages c.args.map.now) c.args.m.now _ _ c.args.way c.requires.known c.requires.entries_bound.1 c.if-seen-at-eq1.true
 
 pub returns-then-page-pages : goal.returns-then-page-pages
-returns-then-page-pages c = let e = c in searched_now (wanted c.args.want c.args.pages c.args.map.now) c.args.m.now _ _ _ e.args.way e.requires.1.1 e.requires.1.0.1 c.scan.ensures
+returns-then-page-pages c = searched_now (wanted c.args.want c.args.pages c.args.map.now) c.args.m.now _ _ _ c.args.way c.requires.known c.requires.entries_bound.1 c.scan.ensures
 
 pub returns : goal.returns
-returns c = let e = c in subst (λ (l : List Way). Searched (wanted c.args.want c.args.pages c.args.map.now) c.args.m.now e.args.best e.args.seen.now e.args.best e.args.seen.now l) (sym (next_none c.args.m.now _ e.requires.0.0 e.requires.0.1 e.args.way c.if-page-pages.false)) (searched_none (wanted c.args.want c.args.pages c.args.map.now) c.args.m.now _ _ e.requires.1.1)
+returns c = subst (λ (l : List Way). Searched (wanted c.args.want c.args.pages c.args.map.now) c.args.m.now c.args.best c.args.seen.now c.args.best c.args.seen.now l) (sym (next_none c.args.m.now _ c.requires.m_len.0 c.requires.m_len.1 c.args.way c.if-page-pages.false)) (searched_none (wanted c.args.want c.args.pages c.args.map.now) c.args.m.now _ _ c.requires.known)
