@@ -27,13 +27,16 @@ for c in sorted(os.listdir(os.path.join(crate, '..'))):
                 m = re.search(r"^\s*\{$", head, re.M)
                 head = head[:m.start()] if m else head
                 of_fn = {k: re.findall(r"^\s+%s (\w+) \{" % k, head, re.M) for k in ('requires', 'ensures')}
-                clause_names.setdefault((c, n), []).append(of_fn)
+                clause_names.setdefault((c, n), []).append((f[:-3], of_fn))
 
 def names_of(path, kind):
     """The names of a function's clauses of one kind, where it has several."""
     parts = path.split('::')
     got = clause_names.get((parts[0], parts[-1]))
-    return got[0][kind] if got else []
+    if not got: return []
+    mods = parts[1:-1]
+    best = [of_fn for stem, of_fn in got if stem in mods] or [of_fn for stem, of_fn in got if stem in ('lib', 'main')] or [got[0][1]]
+    return best[0][kind]
 
 def of_pairs(names, path):
     """Turns a way into nested pairs to the name of a clause: ['1', '0', 'x'] of three names is [second, 'x']."""
@@ -158,9 +161,8 @@ def convert(folder, fn, of):
             if cand in needs: return needs[cand]
         return None
     used_places = set()
-    own_requires, own_ensures = names_of(name + '::' + fn, 'requires'), names_of(name + '::' + fn, 'ensures')
-    if '.' in fn:
-        own_requires, own_ensures = names_of(name + '::' + fn.split('.')[-1], 'requires'), names_of(name + '::' + fn.split('.')[-1], 'ensures')
+    whole = '::'.join([name] + fn.split('.'))
+    own_requires, own_ensures = names_of(whole, 'requires'), names_of(whole, 'ensures')
     callees = {q.split('::')[-1]: q for q in of['params']}
     parent = {pl[0]: pl[1] for pl in of['places']}
     index = {pl[0]: i for i, pl in enumerate(of['places'])}
@@ -228,6 +230,7 @@ def convert(folder, fn, of):
                 f = clauses[k]
                 if len(f) == 1: parts[1:2] = ['ensures', f[0]]
                 elif len(parts) > 2 and of_pairs(f, parts[2:]): parts[2:] = of_pairs(f, parts[2:])
+            if parts[0] == 'pre': parts[0] = 'requires'
             if parts[0] == 'requires' and len(own_requires) > 1 and of_pairs(own_requires, parts[1:]):
                 parts[1:] = of_pairs(own_requires, parts[1:])
             elif k in steps2: parts[0] = steps2[k]
@@ -235,7 +238,13 @@ def convert(folder, fn, of):
             elif parts[0] not in ('args', 'requires', 'ranges', 'well_formed', 'lifetimes', 'type_inv'):
                 notes.append(f'unknown step {parts[0]} in {goalname}')
             return '.'.join(['c'] + parts)
-        return re.sub(r"(?<![\w'.-])(c)((?:\.[A-Za-z0-9_'-]+)+)", chain, t)
+        t = re.sub(r"(?<![\w'.-])(c)((?:\.[A-Za-z0-9_'-]+)+)", chain, t)
+        # the test of !x says of x itself what it said of not x
+        for word, field in (('not-true', 'true'), ('not-false', 'false')):
+            way = r"c\.if-not-[A-Za-z0-9_-]+\." + field
+            t = re.sub(word + r" _ \((" + way + r")\)", r"\1", t)
+            t = re.sub(word + r" _ (" + way + r")(?![\w.'-])", r"\1", t)
+        return t
     answers, invariants, keep = [], [], []
     for b in blocks:
         comments = []

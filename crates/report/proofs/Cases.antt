@@ -65,7 +65,7 @@ module _ (t m : List ℕ) (x : Step) where
     interrupt : (level : ℕ) → answer_of A ≡ Interrupt level → Roomy → Has → Leads A (report.interrupt level) → Case A
     no_step : answer_of A ≡ Refused 5 → x ≡ kind.NotAStep → Case A
     undefined : answer_of A ≡ Refused 6 → (x ≡ kind.NotAStep → ⊥) → ((M : ℕ → ℕ) → δx M ≡ report.none) → Case A
-    no_byte_lem : answer_of A ≡ Refused 7 → (y : ℕ) → ((M : ℕ → ℕ) → misses (view t m M) x (length m) y ≡ true) →
+    no_byte : answer_of A ≡ Refused 7 → (y : ℕ) → ((M : ℕ → ℕ) → misses (view t m M) x (length m) y ≡ true) →
         (M : ℕ → ℕ) → ((z : ℕ) → M z < 2 ^ 8) → Allowed (δx M) → Case A
     no_store : answer_of A ≡ Refused 8 → Has → ((M : ℕ → ℕ) → Allowed (δx M)) → ((M : ℕ → ℕ) → Full t m x M) → Case A
     no_walk : answer_of A ≡ Refused 9 → Has → ((M : ℕ → ℕ) → Allowed (δx M)) → ((M : ℕ → ℕ) → Crowded t m x M) → Case A

@@ -216,7 +216,7 @@ module _ (t m : List ℕ) (x : Step) (M : ℕ → ℕ) (r : report.Answer) (u v 
   unfolding view processor_of
   not_full N e F =
       let q = ap (report.δBy ovf_of (view t m M)) (sym F.is_core) ∙ N.is_next in
-      let o = one_more (view t m M) F.i F.w_i F.w_r r N.to (sym (does_same (view t m M) F.i F.w_i F.w_r store store_not) ∙ F.is_IsStore) q in
+      let o = one_more (view t m M) F.i F.w_i F.w_r r N.to (sym (does_same (view t m M) F.i F.w_i F.w_r store store_not) ∙ F.is_store) q in
       let l : F.i < cores_of u = subst (λ (n : ℕ). F.i < n) N.agrees.np o.0 in
       let few = block_few_stores (length v) (block u F.i) (core_sound u (length v) e F.i l) (core_long u (length v) e F.i l) in
       let same = ap length (N.agrees.p F.i o.0).sb in
@@ -274,7 +274,7 @@ module _ (t m s : List ℕ) (e : sound t (length m) ≡ true) (ws : Words t) (bs
   ground (Case.undefined a p q) = subst Ok (on_sound (taken_refused t m s 6 (sym a))).0 (Ground.undefined p (λ M. defined_none (view t m M) x (q M)))
   ground (Case.no_byte a y p M b d) = subst Ok (on_sound (taken_refused t m s 7 (sym a))).0 (Ground.no_byte y p M b (defined_allowed (view t m M) x d))
   ground (Case.no_store a h d q) = subst Ok (on_sound (taken_refused t m s 8 (sym a))).0 (Ground.no_store h (λ M. defined_allowed (view t m M) x (d M)) q)
-  ground (Case.no_Walk a h d q) = subst Ok (on_sound (taken_refused t m s 9 (sym a))).0 (Ground.no_Walk h (λ M. defined_allowed (view t m M) x (d M)) q)
+  ground (Case.no_walk a h d q) = subst Ok (on_sound (taken_refused t m s 9 (sym a))).0 (Ground.no_walk h (λ M. defined_allowed (view t m M) x (d M)) q)
 
   -- by the step that they are found to say
   pub by_step_lem : (y : Step) → step_of (cores_of t) s ≡ y → Case t m y (by_step t m y) → Ok r.answer
@@ -325,4 +325,4 @@ unhindered t m s e ws bs M A = go (demand2 t m s e ws bs)
     go (Ground.undefined n q) = never (q M)
     go (Ground.no_byte x p L b o) = refl
     go (Ground.no_store h o F) = refl
-    go (Ground.no_Walk h o C) = refl
+    go (Ground.no_walk h o C) = refl

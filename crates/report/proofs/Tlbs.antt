@@ -125,7 +125,7 @@ module _ (t m : List ℕ) (e : sound t (length m) ≡ true) (k : ℕ) (h : k < c
         go : (a f r : Bool) → among w (walks b) ≡ a → leb 23 (length (walks b)) ≡ f → is_free b ≡ r →
             MayBeDone (length m) b (if not a && f then refused 9 else if not a && not r then refused 10 else plan) → Case t m x (Planned k (if not a && f then refused 9 else if not a && not r then refused 10 else plan))
         go true f r p q z D = placed (ap (λ (y : Bool). y || ltb (length (walks b)) 23) p) D
-        go false true r p q z D = Case.no_Walk refl has (λ M. record { to = added M; answer = report.done; is_next = next M }) (crowded p q)
+        go false true r p q z D = Case.no_walk refl has (λ M. record { to = added M; answer = report.done; is_next = next M }) (crowded p q)
         go false false true p q z D =
             placed (ap (λ (y : Bool). y || ltb (length (walks b)) 23) p ∙ lt-ltb (length (walks b)) 23 (leb-false 23 (length (walks b)) q)) D
         go false false false p q z D =

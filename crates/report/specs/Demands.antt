@@ -204,7 +204,7 @@ module _ (t m s : List ℕ) where
     -- 6: a step for which δ is not defined, whatever is beyond memory
     undefined : (a ≡ NotAStep → ⊥) → ((M : ℕ → ℕ) → outcome t m a M ≡ report.none) → Ground (Refused 6)
     -- 7: a byte that is needed is nowhere; with some bytes beyond memory δ is defined
-    no_byte_lem : (x : ℕ) → ((M : ℕ → ℕ) → misses (view t m M) a (length m) x ≡ true) → (M : ℕ → ℕ) → ((y : ℕ) → M y < 2 ^ 8) → Allowed (outcome t m a M) → Ground (Refused 7)
+    no_byte : (x : ℕ) → ((M : ℕ → ℕ) → misses (view t m M) a (length m) x ≡ true) → (M : ℕ → ℕ) → ((y : ℕ) → M y < 2 ^ 8) → Allowed (outcome t m a M) → Ground (Refused 7)
     -- 8: δ allows it, and it is a ninth store
     no_store : Present t m a → ((M : ℕ → ℕ) → Allowed (outcome t m a M)) → ((M : ℕ → ℕ) → Full t m a M) → Ground (Refused 8)
     -- 9: δ allows it, and it adds a twenty-fourth walk

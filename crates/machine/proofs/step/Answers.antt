@@ -1,20 +1,19 @@
 use mathlib.Core.Path.{sym, ◌∙◌, ap}
-use borrow.Author.Tests.{not-true, not-false}
 use Rattle.machine.proofs.Taking.{not_sound, step_accepted, step_refused, count_asks}
 use Rattle.steps.specs.Answers.{answer_number}
 use Rattle.machine.proofs.step.Goals as goal
 
 pub returns-then-not-sound : goal.returns-then-not-sound
-returns-then-not-sound c = let x = not_sound c.args.t.now c.args.m.now c.args.s.now (sym c.sound.ensures ∙ not-true _ c.if-not-sound.true) in record { value = x.0; t_after = x.1; m_after = x.2; result_value = ap answer_number x.0 }
+returns-then-not-sound c = let x = not_sound c.args.t.now c.args.m.now c.args.s.now (sym c.sound.ensures ∙ c.if-not-sound.true) in record { value = x.0; t_after = x.1; m_after = x.2; result_value = ap answer_number x.0 }
 
 pub take-r-requires : goal.take-r-requires
-take-r-requires c = sym c.sound.ensures ∙ not-false _ c.if-not-sound.false
+take-r-requires c = sym c.sound.ensures ∙ c.if-not-sound.false
 
 pub returns-then-not-is_accepted : goal.returns-then-not-is_accepted
-returns-then-not-is_accepted c = step_refused _ _ _ (sym c.sound.ensures ∙ not-false _ c.if-not-sound.false) c.take-r.ensures (sym c.is_accepted.ensures ∙ not-true _ c.if-not-is_accepted.true) c.count.ensures
+returns-then-not-is_accepted c = step_refused _ _ _ (sym c.sound.ensures ∙ c.if-not-sound.false) c.take-r.ensures (sym c.is_accepted.ensures ∙ c.if-not-is_accepted.true) c.count.ensures
 
 pub count-requires : goal.count-requires
-count-requires c = count_asks _ _ _ (sym c.sound.ensures ∙ not-false _ c.if-not-sound.false) c.take-r.ensures (sym c.is_accepted.ensures ∙ not-true _ c.if-not-is_accepted.true)
+count-requires c = count_asks _ _ _ (sym c.sound.ensures ∙ c.if-not-sound.false) c.take-r.ensures (sym c.is_accepted.ensures ∙ c.if-not-is_accepted.true)
 
 pub returns-else-not-is_accepted : goal.returns-else-not-is_accepted
-returns-else-not-is_accepted c = step_accepted _ _ _ (sym c.sound.ensures ∙ not-false _ c.if-not-sound.false) c.take-r.ensures (sym c.is_accepted.ensures ∙ not-false _ c.if-not-is_accepted.false)
+returns-else-not-is_accepted c = step_accepted _ _ _ (sym c.sound.ensures ∙ c.if-not-sound.false) c.take-r.ensures (sym c.is_accepted.ensures ∙ c.if-not-is_accepted.false)

@@ -1,7 +1,7 @@
 use mathlib.Core.Path.{sym, ap, ◌∙◌}
 use Prim.Native.Nat.{ℕ, ◌-◌}
 use native.Mathlib.Omega.{arith}
-use borrow.Author.Tests.{not-true, not-false, ne_eqb}
+use borrow.Author.Tests.{ne_eqb}
 use Rattle.tlb.specs.Walks.{walk_level}
 use Rattle.translate.specs.declared.Translation.TheVariants.{Mapped}
 use Rattle.translate.proofs.Leading.{at_entry, at_asked, again, lead_start, lead_end, lead_mapped, lead_beyond, lead_absent, asked_to_beyond, asked_to_absent, lead_next}
@@ -35,13 +35,13 @@ pub shape_of-slots-then-not-present : goal.shape_of-slots-then-not-present
 shape_of-slots-then-not-present c = c.entry-got.ensures.asked.kept.slots_long ∙ sym c.requires.cached.slots_long
 
 pub returns-then-not-present : goal.returns-then-not-present
-returns-then-not-present c = let l = c.loop-left in let g = c.entry-got.ensures in let q = c.ptea.ensures in let h = at_entry _ _ _ q g.result_value c.in-Word.is in let p = sym c.present.ensures ∙ not-true _ c.if-not-present.true in record { to_value = lead_absent l.left (l.left - 1) (omega arith) l.invariant _ h p; asked = asked_to_absent l.left (l.left - 1) (omega arith) l.invariant (at_asked _ _ _ q g.asked) _ h p }
+returns-then-not-present c = let l = c.loop-left in let g = c.entry-got.ensures in let q = c.ptea.ensures in let h = at_entry _ _ _ q g.result_value c.in-Word.is in let p = sym c.present.ensures ∙ c.if-not-present.true in record { to_value = lead_absent l.left (l.left - 1) (omega arith) l.invariant _ h p; asked = asked_to_absent l.left (l.left - 1) (omega arith) l.invariant (at_asked _ _ _ q g.asked) _ h p }
 
 pub wext-w-requires : goal.wext-w-requires
 wext-w-requires c = let l = c.loop-left in ne_eqb (walk_level l.w) 0 (λ z. omega (arith, l.invariant.level))
 
 pub loop-left-preserved : goal.loop-left-preserved
-loop-left-preserved c = let l = c.loop-left in let g = c.entry-got.ensures in let q = c.ptea.ensures in let h = at_entry _ _ _ q g.result_value c.in-Word.is in let p = sym c.present.ensures ∙ not-false _ c.if-not-present.false in again c.wext-w.ensures (lead_next l.left (l.left - 1) (omega arith) l.invariant (at_asked _ _ _ q g.asked) _ h p)
+loop-left-preserved c = let l = c.loop-left in let g = c.entry-got.ensures in let q = c.ptea.ensures in let h = at_entry _ _ _ q g.result_value c.in-Word.is in let p = sym c.present.ensures ∙ c.if-not-present.false in again c.wext-w.ensures (lead_next l.left (l.left - 1) (omega arith) l.invariant (at_asked _ _ _ q g.asked) _ h p)
 
 pub shape_of-keys : goal.shape_of-keys
 shape_of-keys c = c.loop-left.invariant.kept.keys_long ∙ sym c.requires.cached.keys_long

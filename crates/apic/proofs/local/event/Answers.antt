@@ -1,15 +1,14 @@
 -- `apic::local::event` meets its contract, by whether each register has a vector, and by their lowest ones.
 use mathlib.Core.Path.{sym, ◌∙◌}
-use borrow.Author.Tests.{not-true}
 use Rattle.vector_register.proofs.Some.{none_set}
 use Rattle.apic.proofs.Events.{event_none, event_free, event_below, event_masked}
 use Rattle.apic.proofs.local.event.Goals as goal
 
 pub returns-then-not-any : goal.returns-then-not-any
-returns-then-not-any c = event_none c.args.b.now (none_set _ (sym c.any.ensures ∙ not-true _ c.if-not-any.true))
+returns-then-not-any c = event_none c.args.b.now (none_set _ (sym c.any.ensures ∙ c.if-not-any.true))
 
 pub returns-then-not-any-2 : goal.returns-then-not-any-2
-returns-then-not-any-2 c = event_free c.args.b.now _ (sym c.lowest-asked.ensures ∙ c.in-Vector.is) (none_set _ (sym c.any-in-Vector.ensures ∙ not-true _ c.if-not-any-2.true))
+returns-then-not-any-2 c = event_free c.args.b.now _ (sym c.lowest-asked.ensures ∙ c.in-Vector.is) (none_set _ (sym c.any-in-Vector.ensures ∙ c.if-not-any-2.true))
 
 pub returns-then-v-k : goal.returns-then-v-k
 returns-then-v-k c = event_below c.args.b.now _ (sym c.lowest-asked.ensures ∙ c.in-Vector.is) _ (sym c.lowest-served.ensures ∙ c.in-Vector-served.is) c.if-v-k.true

@@ -18,10 +18,10 @@ pub returns-then-has_hazard : goal.returns-then-has_hazard
 returns-then-has_hazard c = c.refused-then-has_hazard.ensures ∙ address_hazard _ _ _ _ _ _ (rw (← c.avoids_ports.ensures, ← c.is_port.ensures) c.if-avoids_ports-is_port.false) (sym c.has_hazard.ensures ∙ c.if-has_hazard.true)
 
 pub returns-then-suppress : goal.returns-then-suppress
-returns-then-suppress c = c.stopped.ensures ∙ (rw c.requires.a_value.1.1 refl ∙ address_stopped _ _ _ _ _ _ (rw (← c.avoids_ports.ensures, ← c.is_port.ensures) c.if-avoids_ports-is_port.false) (sym c.has_hazard.ensures ∙ c.if-has_hazard.false) (rw (← c.requires.a_value.1.1) (sym c.suppress.ensures ∙ c.if-suppress.true)))
+returns-then-suppress c = c.stopped.ensures ∙ (rw c.requires.causes_value refl ∙ address_stopped _ _ _ _ _ _ (rw (← c.avoids_ports.ensures, ← c.is_port.ensures) c.if-avoids_ports-is_port.false) (sym c.has_hazard.ensures ∙ c.if-has_hazard.false) (rw (← c.requires.causes_value) (sym c.suppress.ensures ∙ c.if-suppress.true)))
 
 pub performed-requires : goal.performed-requires
-performed-requires c = record { sound_beside = c.requires.sound_beside; instruction_value = c.requires.a_value.0; instruction_value_2 = access_aligned c.args.f.instruction (registers_of c.args.b.now) c.args.f.word c.args.a (is_event (event c.args.b.now)) false c.requires.a_value.0 (rw (← c.requires.a_value.1.1) (sym c.suppress.ensures ∙ c.if-suppress.false)) c.requires.a_value.1.0 }
+performed-requires c = record { sound_beside = c.requires.sound_beside; instruction_value = c.requires.instruction_value; instruction_value_2 = access_aligned c.args.f.instruction (registers_of c.args.b.now) c.args.f.word c.args.a (is_event (event c.args.b.now)) false c.requires.instruction_value (rw (← c.requires.causes_value) (sym c.suppress.ensures ∙ c.if-suppress.false)) c.requires.a_value }
 
 pub returns : goal.returns
-returns c = c.performed.ensures ∙ (rw c.requires.a_value.1.1 refl ∙ address_performed _ _ _ _ _ _ (rw (← c.avoids_ports.ensures, ← c.is_port.ensures) c.if-avoids_ports-is_port.false) (rw (← c.requires.a_value.1.1) (sym c.suppress.ensures ∙ c.if-suppress.false)))
+returns c = c.performed.ensures ∙ (rw c.requires.causes_value refl ∙ address_performed _ _ _ _ _ _ (rw (← c.avoids_ports.ensures, ← c.is_port.ensures) c.if-avoids_ports-is_port.false) (rw (← c.requires.causes_value) (sym c.suppress.ensures ∙ c.if-suppress.false)))

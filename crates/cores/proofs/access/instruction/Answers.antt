@@ -1,5 +1,4 @@
 use mathlib.Core.Path.{sym, ◌∙◌}
-use borrow.Author.Tests.{not-true, not-false}
 use Rattle.cores.proofs.Judging.{instruction_waits, instruction_access, instruction_plain}
 use Rattle.cores.proofs.Held.{records_linked}
 use Rattle.cores.proofs.access.instruction.Goals as goal
@@ -8,16 +7,16 @@ pub finds_buffer-requires : goal.finds_buffer-requires
 finds_buffer-requires c = record { b_len = c.requires.long; b_value = records_linked _ _ c.requires.records }
 
 pub returns-then-not-finds_buffer : goal.returns-then-not-finds_buffer
-returns-then-not-finds_buffer c = c.refused.ensures ∙ instruction_waits _ _ _ _ _ _ _ c.finds_buffer.ensures (not-true _ c.if-not-finds_buffer.true)
+returns-then-not-finds_buffer c = c.refused.ensures ∙ instruction_waits _ _ _ _ _ _ _ c.finds_buffer.ensures (c.if-not-finds_buffer.true)
 
 pub access-requires : goal.access-requires
 access-requires c = record { sound_beside = c.requires; instruction_value = sym c.is_access.ensures ∙ c.if-is_access.true; causes_value = c.of-causes.ensures }
 
 pub returns-then-is_access : goal.returns-then-is_access
-returns-then-is_access c = c.access.ensures ∙ instruction_access _ _ _ _ _ _ _ c.finds_buffer.ensures (not-false _ c.if-not-finds_buffer.false) (sym c.is_access.ensures ∙ c.if-is_access.true)
+returns-then-is_access c = c.access.ensures ∙ instruction_access _ _ _ _ _ _ _ c.finds_buffer.ensures (c.if-not-finds_buffer.false) (sym c.is_access.ensures ∙ c.if-is_access.true)
 
 pub plain-requires : goal.plain-requires
 plain-requires c = record { b_len = c.requires.long; causes_value = c.of-causes.ensures }
 
 pub returns : goal.returns
-returns c = c.plain.ensures ∙ instruction_plain _ _ _ _ _ _ _ c.finds_buffer.ensures (not-false _ c.if-not-finds_buffer.false) (sym c.is_access.ensures ∙ c.if-is_access.false)
+returns c = c.plain.ensures ∙ instruction_plain _ _ _ _ _ _ _ c.finds_buffer.ensures (c.if-not-finds_buffer.false) (sym c.is_access.ensures ∙ c.if-is_access.false)

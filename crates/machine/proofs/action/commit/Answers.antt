@@ -13,39 +13,39 @@ use Rattle.machine.specs.inner.Split.{is_plan}
 use Rattle.machine.proofs.action.commit.Goals as goal
 
 pub bounds-t-0 : goal.bounds-t-0
-bounds-t-0 c = let h = header_words c.args.t.now (length c.args.m.now) c.pre.0 in omega (arith, h)
+bounds-t-0 c = let h = header_words c.args.t.now (length c.args.m.now) c.requires.m_value in omega (arith, h)
 
 pub send_ipi-requires : goal.send_ipi-requires
-send_ipi-requires c = let f = ipi_asks (cores_of c.args.t.now) (length c.args.m.now) c.args.t.now c.pre.1.0 _ _ c.in-SendIpi.is in let H = header c.args.t.now (length c.args.m.now) c.pre.0 in (H.few_cores, H.long, ltb-true _ _ f.0, f.1)
+send_ipi-requires c = let f = ipi_asks (cores_of c.args.t.now) (length c.args.m.now) c.args.t.now c.requires.t_value _ _ c.in-SendIpi.is in let H = header c.args.t.now (length c.args.m.now) c.requires.m_value in (H.few_cores, H.long, ltb-true _ _ f.0, f.1)
 
 pub send_eoi-requires : goal.send_eoi-requires
-send_eoi-requires c = let f = eoi_asks (cores_of c.args.t.now) (length c.args.m.now) c.args.t.now c.pre.1.0 _ _ c.in-SendEoi.is in let H = header c.args.t.now (length c.args.m.now) c.pre.0 in (H.few_cores, H.long, ltb-true _ _ f.0, f.1)
+send_eoi-requires c = let f = eoi_asks (cores_of c.args.t.now) (length c.args.m.now) c.args.t.now c.requires.t_value _ _ c.in-SendEoi.is in let H = header c.args.t.now (length c.args.m.now) c.requires.m_value in (H.few_cores, H.long, ltb-true _ _ f.0, f.1)
 
 pub slice_bounds-init_core-end : goal.slice_bounds-init_core-end
 slice_bounds-init_core-end c =
-    let h = has c.args.t.now (length c.args.m.now) c.pre.0 _ (init_asks (cores_of c.args.t.now) (length c.args.m.now) c.args.t.now c.pre.1.0 _ c.in-InitCore.is) in
+    let h = has c.args.t.now (length c.args.m.now) c.requires.m_value _ (init_asks (cores_of c.args.t.now) (length c.args.m.now) c.args.t.now c.requires.t_value _ c.in-InitCore.is) in
     omega arith
 
 pub slice_bounds-start_core-end : goal.slice_bounds-start_core-end
 slice_bounds-start_core-end c =
-    let h = has c.args.t.now (length c.args.m.now) c.pre.0 _ (start_asks (cores_of c.args.t.now) (length c.args.m.now) c.args.t.now c.pre.1.0 _ c.in-StartCore.is) in
+    let h = has c.args.t.now (length c.args.m.now) c.requires.m_value _ (start_asks (cores_of c.args.t.now) (length c.args.m.now) c.args.t.now c.requires.t_value _ c.in-StartCore.is) in
     omega arith
 
 pub sample-requires : goal.sample-requires
-sample-requires c = (header_words c.args.t.now (length c.args.m.now) c.pre.0, sample_asks (cores_of c.args.t.now) (length c.args.m.now) c.args.t.now c.pre.1.0 _ c.in-Sample.is)
+sample-requires c = (header_words c.args.t.now (length c.args.m.now) c.requires.m_value, sample_asks (cores_of c.args.t.now) (length c.args.m.now) c.args.t.now c.requires.t_value _ c.in-Sample.is)
 
 pub deliver-requires : goal.deliver-requires
-deliver-requires c = let H = header c.args.t.now (length c.args.m.now) c.pre.0 in (H.few_cores, H.long, deliver_asks (cores_of c.args.t.now) (length c.args.m.now) c.args.t.now c.pre.1.0 _ c.in-Deliver.is)
+deliver-requires c = let H = header c.args.t.now (length c.args.m.now) c.requires.m_value in (H.few_cores, H.long, deliver_asks (cores_of c.args.t.now) (length c.args.m.now) c.args.t.now c.requires.t_value _ c.in-Deliver.is)
 
 pub set_line-requires : goal.set_line-requires
-set_line-requires c = let f = line_asks (cores_of c.args.t.now) (length c.args.m.now) c.args.t.now c.pre.1.0 _ _ c.in-SetLine.is in (header_words c.args.t.now (length c.args.m.now) c.pre.0, f.0, f.1)
+set_line-requires c = let f = line_asks (cores_of c.args.t.now) (length c.args.m.now) c.args.t.now c.requires.t_value _ _ c.in-SetLine.is in (header_words c.args.t.now (length c.args.m.now) c.requires.m_value, f.0, f.1)
 
 pub returns-in-Refused : goal.returns-in-Refused
 unfolding tables_after memory_after
 returns-in-Refused c = record { t_after = rw c.in-Refused.is refl; m_after = rw c.in-Refused.is refl }
 
 pub returns-in-Planned : goal.returns-in-Planned
-returns-in-Planned c = absurd (true_false (sym (ap is_plan c.in-Planned.is) ∙ c.pre.1.1))
+returns-in-Planned c = absurd (true_false (sym (ap is_plan c.in-Planned.is) ∙ c.requires.a_value))
 
 pub returns-in-SendIpi : goal.returns-in-SendIpi
 unfolding tables_after memory_after

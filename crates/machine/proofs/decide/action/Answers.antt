@@ -38,10 +38,10 @@ pub block-requires-in-StartCore : goal.block-requires-in-StartCore
 block-requires-in-StartCore c = block_in c _ (formed_at c c.in-StartCore.is)
 
 pub may_sample-requires : goal.may_sample-requires
-may_sample-requires c = (header_words c.args.t.now (length c.args.m.now) c.pre.0, ltb-true _ _ (formed_at c c.in-Sample.is))
+may_sample-requires c = (header_words c.args.t.now (length c.args.m.now) c.requires.m_value, ltb-true _ _ (formed_at c c.in-Sample.is))
 
 pub may_deliver-requires : goal.may_deliver-requires
-may_deliver-requires c = (header_words c.args.t.now (length c.args.m.now) c.pre.0, ltb-true _ _ (formed_at c c.in-Deliver.is))
+may_deliver-requires c = (header_words c.args.t.now (length c.args.m.now) c.requires.m_value, ltb-true _ _ (formed_at c c.in-Deliver.is))
 
 pub returns-in-Core : goal.returns-in-Core
 returns-in-Core c = has_plan c c.in-Core.is refl

@@ -14,13 +14,13 @@ pub from_second-requires : goal.from_second-requires
 from_second-requires c = record { m_len = c.requires.m_len; entries_bound = (omega (arith, c.requires.entries_value), c.if-level-eq1.true); known = c.requires.known }
 
 pub returns-then-level-eq1 : goal.returns-then-level-eq1
-returns-then-level-eq1 c = subst (Searched (wanted c.args.want c.args.pages c.args.map.now) c.args.m.now _ _ _ _) (from_level c.args.m.now c.args.way 1 c.if-level-eq1.true (omega arith)) c.from_Second.ensures
+returns-then-level-eq1 c = subst (Searched (wanted c.args.want c.args.pages c.args.map.now) c.args.m.now _ _ _ _) (from_level c.args.m.now c.args.way 1 c.if-level-eq1.true (omega arith)) c.from_second.ensures
 
 pub from_first-requires : goal.from_first-requires
 from_first-requires c = record { m_len = c.requires.m_len; entries_value = (c.requires.entries_value, c.if-level-eq2.true); known = c.requires.known }
 
 pub returns-then-level-eq2 : goal.returns-then-level-eq2
-returns-then-level-eq2 c = subst (Searched (wanted c.args.want c.args.pages c.args.map.now) c.args.m.now _ _ _ _) (from_level c.args.m.now c.args.way 2 c.if-level-eq2.true (omega arith)) c.from_First.ensures
+returns-then-level-eq2 c = subst (Searched (wanted c.args.want c.args.pages c.args.map.now) c.args.m.now _ _ _ _) (from_level c.args.m.now c.args.way 2 c.if-level-eq2.true (omega arith)) c.from_first.ensures
 
 pub returns : goal.returns
 returns c = subst (Searched (wanted c.args.want c.args.pages c.args.map.now) c.args.m.now _ _ _ _) (from_above c.args.m.now c.args.way c.if-level-eq0.false c.if-level-eq1.false c.if-level-eq2.false) (searched_none (wanted c.args.want c.args.pages c.args.map.now) c.args.m.now _ _ c.requires.known)
