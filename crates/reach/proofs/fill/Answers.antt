@@ -30,7 +30,7 @@ write_map-requires c = let h = header _ _ c.requires.m_value in (marked_long c.p
 pub returns : goal.returns
 returns c =
     let words : Words c.args.t.now = λ i. omega (arith, c.type_inv.t i) in
-    let bytes : Bytes c.args.m.now = λ i. omega (arith, c.type_inv.m i) in (
-      filled_beyond c.args.t.now c.args.m.now c.args.group c.requires.m_value words bytes zeros zeros_long zeros_blank _ _ _ _ _ _ c.mark_cores-named.ensures c.pass-seconds.ensures c.pass-datas.ensures,
-      filled_map c.args.t.now c.args.m.now c.args.group c.requires.m_value words bytes zeros zeros_long zeros_blank _ _ _ _ _ _ c.mark_cores-named.ensures c.pass-seconds.ensures c.pass-datas.ensures _ c.write_map.ensures,
-    )
+    let bytes : Bytes c.args.m.now = λ i. omega (arith, c.type_inv.m i) in record {
+      value = filled_beyond c.args.t.now c.args.m.now c.args.group c.requires.m_value words bytes zeros zeros_long zeros_blank _ _ _ _ _ _ c.mark_cores-named.ensures c.pass-seconds.ensures c.pass-datas.ensures;
+      map_after = filled_map c.args.t.now c.args.m.now c.args.group c.requires.m_value words bytes zeros zeros_long zeros_blank _ _ _ _ _ _ c.mark_cores-named.ensures c.pass-seconds.ensures c.pass-datas.ensures _ c.write_map.ensures;
+    }

@@ -1,7 +1,7 @@
 -- `store_buffer::read_beneath` meets its contract.
 -- Assumes nothing.
 use mathlib.Core.Path.{◌≡◌, sym, ap, ◌∙◌}
-use Prim.Native.Nat.{◌-◌, ◌/◌, ◌%◌, ◌^◌, ◌<◌, ◌≤◌}
+use Prim.Native.Nat.{ℕ, ◌-◌, ◌/◌, ◌%◌, ◌^◌, ◌<◌, ◌≤◌}
 use native.Mathlib.Omega.{arith}
 use borrow.Author.Tests.{lt-ltb, le-ltb}
 use lib.Dec.{ltb}
@@ -13,13 +13,13 @@ use Rattle.store_buffer.proofs.Beneath.{local_range, io_range, reads_local, read
 use Rattle.store_buffer.proofs.read_beneath.Goals as goal
 
 -- the word of the I/O APIC's port
-io_select : (e : tie.Start) → e.args.a - io_ports < 4
-    → e.args.select / 256 ^ (e.args.a % 4) % 256 ^ e.args.d ≡ (if ltb (e.args.a - io_ports) 4 then e.args.select else e.args.window) / 256 ^ (e.args.a % 4) % 256 ^ e.args.d
-io_select e h = rw (lt-ltb _ _ h)
+io_select : (select window a d : ℕ) → a - io_ports < 4
+    → select / 256 ^ (a % 4) % 256 ^ d ≡ (if ltb (a - io_ports) 4 then select else window) / 256 ^ (a % 4) % 256 ^ d
+io_select select window a d h = rw (lt-ltb _ _ h)
 
-io_window : (e : tie.Start) → 4 ≤ e.args.a - io_ports
-    → e.args.window / 256 ^ (e.args.a % 4) % 256 ^ e.args.d ≡ (if ltb (e.args.a - io_ports) 4 then e.args.select else e.args.window) / 256 ^ (e.args.a % 4) % 256 ^ e.args.d
-io_window e h = rw (le-ltb _ _ h)
+io_window : (select window a d : ℕ) → 4 ≤ a - io_ports
+    → window / 256 ^ (a % 4) % 256 ^ d ≡ (if ltb (a - io_ports) 4 then select else window) / 256 ^ (a % 4) % 256 ^ d
+io_window select window a d h = rw (le-ltb _ _ h)
 
 pub overflow_sub-at : goal.overflow_sub-at
 overflow_sub-at c = (local_range _ (sym c.is_local_port.ensures ∙ c.if-is_local_port.true)).0
@@ -42,14 +42,14 @@ part-requires-then-at-lt4 c = record { k_bound = omega arith; d_value = aligned_
 
 pub returns-then-at-lt4 : goal.returns-then-at-lt4
 returns-then-at-lt4 c =
-    ap There (c.part-then-at-lt4.ensures ∙ io_select c c.if-at-lt4.true) ∙ sym (reads_io c.args.a c.args.d (omega arith) (aligned_word _ _ c.requires.d_value) c.args.b.now c.args.memory.now c.args.select c.args.window (sym c.is_local_port.ensures ∙ c.if-is_local_port.false) (sym c.is_io_port.ensures ∙ c.if-is_io_port.true))
+    ap There (c.part-then-at-lt4.ensures ∙ io_select c.args.select c.args.window c.args.a c.args.d c.if-at-lt4.true) ∙ sym (reads_io c.args.a c.args.d (omega arith) (aligned_word _ _ c.requires.d_value) c.args.b.now c.args.memory.now c.args.select c.args.window (sym c.is_local_port.ensures ∙ c.if-is_local_port.false) (sym c.is_io_port.ensures ∙ c.if-is_io_port.true))
 
 pub part-requires-then-is_io_port : goal.part-requires-then-is_io_port
 part-requires-then-is_io_port c = record { k_bound = omega arith; d_value = aligned_sized _ _ c.requires.d_value }
 
 pub returns-then-is_io_port : goal.returns-then-is_io_port
 returns-then-is_io_port c =
-    ap There (c.part-then-is_io_port.ensures ∙ io_window c c.if-at-lt4.false) ∙ sym (reads_io c.args.a c.args.d (omega arith) (aligned_word _ _ c.requires.d_value) c.args.b.now c.args.memory.now c.args.select c.args.window (sym c.is_local_port.ensures ∙ c.if-is_local_port.false) (sym c.is_io_port.ensures ∙ c.if-is_io_port.true))
+    ap There (c.part-then-is_io_port.ensures ∙ io_window c.args.select c.args.window c.args.a c.args.d c.if-at-lt4.false) ∙ sym (reads_io c.args.a c.args.d (omega arith) (aligned_word _ _ c.requires.d_value) c.args.b.now c.args.memory.now c.args.select c.args.window (sym c.is_local_port.ensures ∙ c.if-is_local_port.false) (sym c.is_io_port.ensures ∙ c.if-is_io_port.true))
 
 pub returns : goal.returns
 returns c =

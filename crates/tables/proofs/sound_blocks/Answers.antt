@@ -2,7 +2,6 @@ use mathlib.Core.Path.{refl, sym, ap, ◌∙◌}
 use Prim.Native.Nat.{◌-◌}
 use native.Mathlib.Omega.{arith}
 use mathlib.Core.Bool.{Bool, ◌&&◌}
-use borrow.Author.Tests.{not-true, not-false}
 use Rattle.tables.specs.Sound.{sound_blocks}
 use Rattle.tables.proofs.Parts.{blocks_step, blocks_none}
 use Rattle.tables.proofs.sound_blocks.Goals as goal
@@ -12,14 +11,14 @@ loop-k-init c = (omega arith, refl)
 
 pub returns-then-not-sound_block : goal.returns-then-not-sound_block
 returns-then-not-sound_block c =
-    ap (λ (r : Bool). r && sound_blocks (c.loop-k.k - 1) c.args.bytes c.args.tables.now) (sym (not-true c.sound_block.result c.if-not-sound_block.true))
+    ap (λ (r : Bool). r && sound_blocks (c.loop-k.k - 1) c.args.bytes c.args.tables.now) (sym c.if-not-sound_block.true)
     ∙ blocks_step c.loop-k.k _ _ _ _ c.loop-k-test.true c.block.ensures.0 c.sound_block.ensures
     ∙ c.loop-k.invariant.1
 
 pub loop-k-preserved : goal.loop-k-preserved
 loop-k-preserved c = (
   omega arith,
-  ap (λ (r : Bool). r && sound_blocks (c.loop-k.k - 1) c.args.bytes c.args.tables.now) (sym (not-false c.sound_block.result c.if-not-sound_block.false))
+  ap (λ (r : Bool). r && sound_blocks (c.loop-k.k - 1) c.args.bytes c.args.tables.now) (sym c.if-not-sound_block.false)
       ∙ blocks_step c.loop-k.k _ _ _ _ c.loop-k-test.true c.block.ensures.0 c.sound_block.ensures
       ∙ c.loop-k.invariant.1,
 )

@@ -22,7 +22,7 @@ loop-j-preserved c =
       omega arith,
       (
         omega arith,
-        part_done l.t l.j c.block_at-a.result c.block_at-a.ensures (f l.j) c.receive.new.0 c.receive.ensures
+        part_done l.t l.j c.block_at-a.result c.block_at-a.ensures (f l.j) c.receive.new.b c.receive.ensures
             ∙ ap (on_block (f l.j) l.j) l.invariant.1.1
             ∙ sym (one_more_block f l.j a.t.now),
       ),

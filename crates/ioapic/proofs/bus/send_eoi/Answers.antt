@@ -11,7 +11,6 @@ use Rattle.ioapic.proofs.bus.send_eoi.Goals as goal
 pub returns : goal.returns
 unfolding send_eoi
 returns c =
-    let s = c in
-    let a = s.before.before.args in
+    let a = c.args in
     c.end.ensures
-    ∙ ap (λ (t : List ℕ). eoi_received t a.v) (part_done a.t.now a.i s.block_at_lem.result s.block_at_lem.ensures (λ (b : List ℕ). eoi_sent b a.v) c.eoi_sent.new.0 c.eoi_sent.ensures)
+    ∙ ap (λ (t : List ℕ). eoi_received t a.v) (part_done a.t.now a.i c.block_at-a.result c.block_at-a.ensures (λ (b : List ℕ). eoi_sent b a.v) c.eoi_sent.new.b c.eoi_sent.ensures)

@@ -8,7 +8,6 @@ use Rattle.ioapic.proofs.bus.send_ipi.Goals as goal
 pub returns : goal.returns
 unfolding send_ipi
 returns c =
-    let s = c in
-    let a = s.before.before.args in
+    let a = c.args in
     c.broadcast.ensures
-    ∙ ap (broadcast a.n a.i a.m) (part_done a.t.now a.i s.block_at_lem.result s.block_at_lem.ensures idle c.idle.new.0 c.idle.ensures)
+    ∙ ap (broadcast a.n a.i a.m) (part_done a.t.now a.i c.block_at-a.result c.block_at-a.ensures idle c.idle.new.b c.idle.ensures)

@@ -6,5 +6,5 @@ use Rattle.tables.proofs.make.make_core.Goals as goal
 
 pub returns : goal.returns
 returns c =
-    part_put c.args.tables.now c.args.k c.block_at-a.result c.block_at-a.ensures c.make_block.new.0
+    part_put c.args.tables.now c.args.k c.block_at-a.result c.block_at-a.ensures c.make_block.new.b
     ∙ rw c.make_block.ensures

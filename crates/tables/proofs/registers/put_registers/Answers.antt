@@ -24,8 +24,9 @@ unfolding with_registers
 returns c =
     let a = c.args in
     let p = c.put_words-2.ensures in
-    let q = c.put_words.ensures in (
-      ap (λ (l : List ℕ). set (set (set l 64 a.r.pc) 65 a.r.hi) 66 a.r.lo) (p.0 ∙ ap (λ (l : List ℕ). paste l 32 a.r.spr 32) q.0)
-          ∙ all_words a.b.now a.r.gpr a.r.spr c.requires q.1 p.1 a.r.pc a.r.hi a.r.lo,
-      (q.1, p.1),
-    )
+    let q = c.put_words.ensures in record {
+      b_after =
+          ap (λ (l : List ℕ). set (set (set l 64 a.r.pc) 65 a.r.hi) 66 a.r.lo) (p.0 ∙ ap (λ (l : List ℕ). paste l 32 a.r.spr 32) q.0)
+          ∙ all_words a.b.now a.r.gpr a.r.spr c.requires q.1 p.1 a.r.pc a.r.hi a.r.lo;
+      gpr_len = (q.1, p.1);
+    }

@@ -6,7 +6,7 @@ use Rattle.tables.proofs.Copy.{copy_start, copy_next, copy_long, copy_end}
 use Rattle.tables.proofs.registers.put_words.Goals as goal
 
 pub loop-i-init : goal.loop-i-init
-loop-i-init c = let g : length c.args.t3 ≡ 32 = c.well_formed.1.1.0.1.0.1 in copy_start _ _ _ c.requires (omega arith)
+loop-i-init c = let g : length c.args.words ≡ 32 = c.well_formed.1.1.0.1.0.1 in copy_start _ _ _ c.requires (omega arith)
 
 pub bounds-b-at : goal.bounds-b-at
 bounds-b-at c = omega (arith, copy_long c.loop-i.invariant, c.loop-i.invariant.room)
