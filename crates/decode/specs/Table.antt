@@ -4,25 +4,16 @@
 use Rattle.std.specs.Prelude.{Bool, true, ◌&&◌, List, [], ◌∷◌, ◌++◌, ℕ, eqb}
 use Rattle.word.specs.Word.{if◌then◌else◌}
 use Rattle.decode.specs.Fields.{opc, fun, rs, rt}
-use Rattle.decode.specs.declared.Load.{Load}
 use Rattle.decode.specs.declared.Load.TheVariants.{Lb, Lh, Lw, Lbu, Lhu}
 use Rattle.decode.specs.declared.StoreWidth.TheVariants.{Sb, Sh, Sw}
-use Rattle.decode.specs.declared.Immediate.{Immediate}
 use Rattle.decode.specs.declared.Immediate.TheVariants.{Addi, Addiu, Slti, Sltiu, Andi, Ori, Xori, Lui}
-use Rattle.decode.specs.declared.Branch.{Branch}
 use Rattle.decode.specs.declared.Branch.TheVariants.{Bltz, Bgez, Beq, Bne, Blez, Bgtz}
-use Rattle.decode.specs.declared.Jump.{Jump}
 use Rattle.decode.specs.declared.Jump.TheVariants.{J, Jal, Jr, Jalr}
-use Rattle.decode.specs.declared.Shift.{Shift}
 use Rattle.decode.specs.declared.Shift.TheVariants.{Sll, Srl, Sra, Sllv, Srlv, Srav}
-use Rattle.decode.specs.declared.Move.{Move}
 use Rattle.decode.specs.declared.Move.TheVariants.{Mfhi, Mthi, Mflo, Mtlo, Movg2s, Movs2g}
-use Rattle.decode.specs.declared.Multiply.{Multiply}
 use Rattle.decode.specs.declared.Multiply.TheVariants.{Mult, Multu, Madd, Maddu, Mul, Msub, Msubu}
-use Rattle.decode.specs.declared.Alu.{Alu}
 use Rattle.decode.specs.declared.Alu.TheVariants.{Add, Addu, Sub, Subu, And, Or, Xor, Nor, Slt, Sltu}
 use Rattle.decode.specs.declared.Instruction.{Instruction}
-use Rattle.decode.specs.declared.System.{System}
 use Rattle.decode.specs.declared.System.TheVariants.{Sysc, Cas, Mfence, Flush, Invlpg, Eret}
 use Rattle.decode.specs.declared.Instruction.TheVariants.{Illegal}
 

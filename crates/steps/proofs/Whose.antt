@@ -2,7 +2,7 @@
 -- part in it, so six words of kind 0 to 8 that name a core count as the well-formed step with that kind and core does;
 -- all other words count in the header.
 -- Assumes nothing.
-use mathlib.Core.Path.{◌≡◌, refl, sym, ap}
+use mathlib.Core.Path.{◌≡◌, refl}
 use mathlib.Core.Logic.{◌≢◌}
 use mathlib.Core.Bool.{Bool, true, false, ◌&&◌}
 use mathlib.Core.List.{List, [], ◌∷◌}

@@ -24,7 +24,7 @@ use Rattle.store_buffer.specs.declared.Read.{Read}
 use Rattle.store_buffer.specs.declared.Read.TheVariants.{There}
 use Rattle.store_buffer.specs.declared.Source.TheVariants.{Nothing, One, Mixed}
 use Rattle.store_buffer.specs.declared.Loaded.TheVariants.{Value, Hazard}
-use Rattle.store_buffer.specs.Buffer.{sbehit, sbhit, sbv, maxsbhit, some, sbhazard}
+use Rattle.store_buffer.specs.Buffer.{sbehit, sbhit, sbv, maxsbhit, sbhazard}
 use Rattle.store_buffer.specs.System.{Ports, ms_of, ms, reads, aligned, sized, on_read, loaded}
 use Rattle.store_buffer.specs.inner.Pass.{source_of, source_by}
 use Rattle.store_buffer.proofs.Access.{InWord, aligned_word, reads_same, reads_part}

@@ -1,6 +1,6 @@
 -- The operation Make (01, 'Make a machine'; the report, 12.1).
 -- Assumes nothing.
-use Rattle.std.specs.Prelude.{ℕ, zero, suc, ◌+◌, ◌*◌, ◌/◌, ◌%◌, ◌^◌, Bool, true, false, ◌&&◌, List, [], ◌∷◌, ◌++◌, set, replicate, eqb}
+use Rattle.std.specs.Prelude.{ℕ, zero, suc, ◌*◌, ◌/◌, ◌%◌, ◌^◌, Bool, true, false, ◌&&◌, List, [], ◌∷◌, ◌++◌, set, replicate, eqb}
 use Rattle.layout.specs.Layout as at
 use Rattle.tables.specs.declared.make.Made.{Made}
 use Rattle.tables.specs.declared.make.Made.TheVariants.{Done, Cores, Memory, Length}

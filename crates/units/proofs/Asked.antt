@@ -1,12 +1,10 @@
 -- No instruction asks a unit's table for control bits that no line has: tested on every row of tables 1 to 4. The control bits are bits of the codes
 -- that a row prints, but for rt[0] of a branch whose row leaves rt free, which is tested at both values.
 -- Assumes nothing.
-use mathlib.Core.Bool.{Bool, true, false, not, ◌&&◌, ◌||◌}
+use mathlib.Core.Bool.{Bool, false, not, ◌&&◌, ◌||◌}
 use mathlib.Core.List.{List, [], ◌∷◌}
 use Prim.Native.Nat.{ℕ, ◌+◌, ◌*◌, ◌^◌}
 use lib.Dec.{T, eqb}
-use Rattle.word.specs.Word.{if◌then◌else◌}
-use Rattle.decode.specs.declared.Instruction.{Instruction}
 use Rattle.decode.specs.Table.{Row, Column, blank, is, table}
 use Rattle.decode.specs.Mnemonics.{itype, rtype, compi, compr, alu, mulacc, mul, b, su}
 use Rattle.decode.proofs.Rows.{each}

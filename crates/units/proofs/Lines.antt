@@ -1,11 +1,10 @@
 -- A line of a table, looked up at control bits that a match has found, or that are none of a match's.
 -- Assumes nothing.
-use mathlib.Core.Path.{◌≡◌, refl, sym, ap, ◌∙◌}
-use mathlib.Core.Bool.{Bool, true, false, not, ◌&&◌}
+use mathlib.Core.Path.{◌≡◌, refl, sym, ap}
+use mathlib.Core.Bool.{Bool, true, ◌&&◌}
 use mathlib.Core.List.{List, [], ◌∷◌}
 use Prim.Native.Nat.{ℕ}
-use lib.Dec.{T, eqb}
-use Rattle.word.specs.Word.{if◌then◌else◌}
+use lib.Dec.{T}
 use Rattle.word.proofs.Tests.{NoneOf, elem, missed, and_left, and_right}
 use Rattle.units.specs.Control.{Line, choose}
 

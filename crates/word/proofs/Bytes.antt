@@ -1,6 +1,6 @@
 -- Laws of the bytes at a place of a list, for every number of them.
 -- Assumes nothing.
-use Rattle.std.proofs.Common.{◌≡◌, ℕ, zero, suc, ◌+◌, ◌-◌, ◌*◌, ◌/◌, ◌%◌, ◌^◌, ◌<◌, ◌≤◌, List, [], ◌∷◌, ◌++◌, length, get_or, take, drop, set, sym, refl, ap, ◌∙◌, add-one, arith, length-append, length-set, get_or-drop, take_all, get_or-take, take-suc-set}
+use Rattle.std.proofs.Common.{◌≡◌, ℕ, zero, suc, ◌+◌, ◌-◌, ◌*◌, ◌/◌, ◌%◌, ◌^◌, ◌<◌, ◌≤◌, List, [], ◌∷◌, length, get_or, take, drop, set, sym, refl, ap, ◌∙◌, add-one, arith, length-append, length-set, get_or-drop, take_all, get_or-take, take-suc-set}
 use native.Mathlib.Nat.{pow-succ', pow-le-pow_right}
 use Rattle.word.specs.Bytes.{bytes_at, put, words_in}
 use Rattle.word.proofs.Words.{Below, set_below}

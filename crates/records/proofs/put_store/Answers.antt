@@ -1,7 +1,7 @@
 -- `records::put_store` meets its contract: the record goes in at the end of the chain.
 -- Assumes nothing.
 use mathlib.Core.Path.{ap, ◌∙◌}
-use Prim.Native.Nat.{ℕ, ◌-◌}
+use Prim.Native.Nat.{ℕ}
 use native.Mathlib.Omega.{arith}
 use Rattle.records.specs.Records.{insert, put_store}
 use Rattle.records.proofs.Along.{head_of, store_chain, end_low}

@@ -1,7 +1,6 @@
 -- `tables::sound` meets its contract, part by part.
 -- Assumes nothing.
 use mathlib.Core.Path.{sym, ◌∙◌}
-use Prim.Native.Nat.{◌-◌}
 use native.Mathlib.Omega.{arith}
 use Rattle.tables.proofs.Parts.{Header, header_of, sound_header_fail, sound_by_blocks}
 use Rattle.tables.proofs.sound.Goals as goal

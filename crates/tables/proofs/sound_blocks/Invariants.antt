@@ -1,7 +1,7 @@
 -- `tables::sound_blocks` meets its contract. The invariant: the blocks of the first k cores decide.
 -- Assumes nothing.
 use mathlib.Core.Path.{◌≡◌}
-use Prim.Native.Nat.{◌-◌, ◌≤◌}
+use Prim.Native.Nat.{◌≤◌}
 use Rattle.tables.specs.Sound.{sound_blocks}
 use Rattle.tables.proofs.sound_blocks.Given as goal
 

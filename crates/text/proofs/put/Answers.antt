@@ -1,4 +1,3 @@
-use Prim.Native.Nat.{◌-◌}
 use native.Mathlib.Omega.{arith}
 use Rattle.text.proofs.Texts.{none, one_more, whole}
 use Rattle.text.proofs.put.Goals as goal

@@ -1,5 +1,4 @@
 use native.Mathlib.Omega.{arith}
-use Prim.Native.Nat.{◌-◌}
 use Rattle.text.specs.Text.{blanks}
 use Rattle.text.proofs.Texts.{none, blank_more, reworded}
 use mathlib.Core.Path.{◌≡◌, ap}

@@ -1,6 +1,5 @@
 -- `tlb::extendable` meets its contract: it is the definition, at what the calls give.
 -- Assumes nothing.
-use Rattle.tlb.specs.Walks.{complete}
 use Rattle.tlb.specs.Steps.{extendable}
 use Rattle.tlb.proofs.extendable.Goals as goal
 

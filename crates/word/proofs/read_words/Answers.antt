@@ -1,4 +1,4 @@
-use Rattle.std.proofs.Common.{◌-◌, arith, rules}
+use Rattle.std.proofs.Common.{arith, rules}
 use Rattle.word.proofs.Bytes.{words_start, words_more, words_end}
 use Rattle.word.proofs.read_words.Goals as goal
 

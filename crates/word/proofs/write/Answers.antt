@@ -1,4 +1,4 @@
-use Rattle.std.proofs.Common.{◌-◌, refl, ◌∙◌, arith, length-set}
+use Rattle.std.proofs.Common.{refl, ◌∙◌, arith, length-set}
 use Rattle.word.proofs.Bytes.{put_more, write_start, write_done}
 use Rattle.word.proofs.write.Goals as goal
 

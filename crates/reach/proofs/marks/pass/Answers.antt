@@ -1,5 +1,4 @@
 use mathlib.Core.Path.{◌∙◌}
-use Prim.Native.Nat.{◌-◌}
 use native.Mathlib.Omega.{arith}
 use Rattle.reach.proofs.Passes.{pass_next, pass_end}
 use Rattle.reach.proofs.Marking.{loop_start, marked_long}

@@ -1,5 +1,4 @@
 use mathlib.Core.Path.{◌∙◌}
-use Prim.Native.Nat.{◌-◌}
 use native.Mathlib.Omega.{arith}
 use Rattle.reach.proofs.Marking.{loop_start, scan_next, scan_end, marked_long}
 use Rattle.reach.proofs.marks.scan.Goals as goal

@@ -1,5 +1,4 @@
 use mathlib.Core.Path.{sym, ◌∙◌}
-use Prim.Native.Nat.{◌-◌}
 use native.Mathlib.Omega.{arith}
 use Rattle.reach.proofs.Passes.{map_start, map_next, map_end}
 use Rattle.reach.proofs.marks.write_map.Goals as goal

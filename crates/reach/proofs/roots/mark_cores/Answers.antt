@@ -1,5 +1,4 @@
 use mathlib.Core.Path.{◌∙◌}
-use Prim.Native.Nat.{◌-◌}
 use native.Mathlib.Omega.{arith}
 use Rattle.reach.proofs.Chains.{cores_end}
 use Rattle.reach.proofs.Marking.{loop_start, loop_next, marked_long}

@@ -1,7 +1,6 @@
 use mathlib.Core.Path.{refl}
 use native.Mathlib.Omega.{arith}
 use Prim.Native.Nat.{◌<◌}
-use Rattle.records.specs.Records.{chain}
 use Rattle.records.proofs.Fold.{left_low, find_zero, find_out, find_hit, find_miss}
 use Rattle.records.proofs.check.walk_from.Goals as goal
 use Rattle.records.proofs.check.walk_from.Goals.{Else-n-eq0}

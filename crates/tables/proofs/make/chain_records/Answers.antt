@@ -1,5 +1,4 @@
 use mathlib.Core.Path.{sym, ◌∙◌}
-use Prim.Native.Nat.{◌-◌}
 use native.Mathlib.Omega.{arith}
 use Rattle.tables.proofs.Fresh.{chaining_start, chaining_next, chaining_long, chaining_end}
 use Rattle.tables.proofs.make.chain_records.Goals as goal

@@ -1,4 +1,3 @@
-use Prim.Native.Nat.{◌-◌}
 use native.Mathlib.Omega.{arith}
 use Rattle.tables.proofs.Copy.{clear_start, clear_next, clear_long, clear_end}
 use Rattle.tables.proofs.make.clear.Goals as goal

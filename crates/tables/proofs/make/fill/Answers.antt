@@ -1,5 +1,4 @@
 use mathlib.Core.Path.{sym, ◌∙◌}
-use Prim.Native.Nat.{◌-◌}
 use native.Mathlib.Omega.{arith}
 use Rattle.tables.proofs.Fresh.{filling_start, filling_next, filling_long, filling_end}
 use Rattle.tables.proofs.make.fill.Goals as goal
