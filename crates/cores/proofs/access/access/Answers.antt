@@ -1,7 +1,6 @@
 use mathlib.Core.Path.{sym, ◌∙◌, refl}
 use Rattle.cores.proofs.Judging.{access_unfit, access_fit, data_faults, data_undecided}
 use Rattle.cores.proofs.Held.{records_linked, held_base}
-use Rattle.cores.specs.Plans.{refused}
 use native.Mathlib.Omega.{arith}
 use Rattle.cores.specs.Core.{view_of}
 use Rattle.tlb.specs.declared.Faulting.TheVariants.{Faults, Passes, Undecided}

@@ -1,7 +1,6 @@
 use mathlib.Core.Path.{sym, ◌∙◌, refl}
 use Rattle.cores.proofs.Judging.{fetch_unfit, fetch_fit, fetch_faults, fetch_undecided}
 use Rattle.cores.proofs.Held.{records_linked, held_base}
-use Rattle.cores.specs.Plans.{refused}
 use Rattle.tlb.specs.declared.Faulting.TheVariants.{Faults, Passes, Undecided}
 use Rattle.tlb.specs.Walks.{hit}
 use Rattle.cores.proofs.core_step.by_walk.Goals as goal

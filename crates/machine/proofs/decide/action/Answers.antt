@@ -27,22 +27,34 @@ has_plan : (s : Start) {x : Step} {A : Type 0} → s.args.p ≡ x → is_planned
 has_plan s q f = absurd (true_false (sym f ∙ sym (ap is_planned q) ∙ s.requires.p_value_2))
 
 pub block-requires : goal.block-requires
-block-requires c = block_in (goal.at.block-requires c).Start _ (formed_at (goal.at.block-requires c).Start c.in-SendIpi.is)
+block-requires c =
+    let s = (goal.at.block-requires c).Start in
+    block_in s _ (formed_at s c.in-SendIpi.is)
 
 pub block-requires-in-SendEoi : goal.block-requires-in-SendEoi
-block-requires-in-SendEoi c = block_in (goal.at.block-requires-in-SendEoi c).Start _ (formed_at (goal.at.block-requires-in-SendEoi c).Start c.in-SendEoi.is)
+block-requires-in-SendEoi c =
+    let s = (goal.at.block-requires-in-SendEoi c).Start in
+    block_in s _ (formed_at s c.in-SendEoi.is)
 
 pub block-requires-in-InitCore : goal.block-requires-in-InitCore
-block-requires-in-InitCore c = block_in (goal.at.block-requires-in-InitCore c).Start _ (formed_at (goal.at.block-requires-in-InitCore c).Start c.in-InitCore.is)
+block-requires-in-InitCore c =
+    let s = (goal.at.block-requires-in-InitCore c).Start in
+    block_in s _ (formed_at s c.in-InitCore.is)
 
 pub block-requires-in-StartCore : goal.block-requires-in-StartCore
-block-requires-in-StartCore c = block_in (goal.at.block-requires-in-StartCore c).Start _ (formed_at (goal.at.block-requires-in-StartCore c).Start c.in-StartCore.is)
+block-requires-in-StartCore c =
+    let s = (goal.at.block-requires-in-StartCore c).Start in
+    block_in s _ (formed_at s c.in-StartCore.is)
 
 pub may_sample-requires : goal.may_sample-requires
-may_sample-requires c = (header_words c.args.t.now (length c.args.m.now) c.requires.m_value, ltb-true _ _ (formed_at (goal.at.may_sample-requires c).Start c.in-Sample.is))
+may_sample-requires c =
+    let s = (goal.at.may_sample-requires c).Start in
+    (header_words c.args.t.now (length c.args.m.now) c.requires.m_value, ltb-true _ _ (formed_at s c.in-Sample.is))
 
 pub may_deliver-requires : goal.may_deliver-requires
-may_deliver-requires c = (header_words c.args.t.now (length c.args.m.now) c.requires.m_value, ltb-true _ _ (formed_at (goal.at.may_deliver-requires c).Start c.in-Deliver.is))
+may_deliver-requires c =
+    let s = (goal.at.may_deliver-requires c).Start in
+    (header_words c.args.t.now (length c.args.m.now) c.requires.m_value, ltb-true _ _ (formed_at s c.in-Deliver.is))
 
 pub returns-in-Core : goal.returns-in-Core
 returns-in-Core c = has_plan (goal.at.returns-in-Core c).Start c.in-Core.is refl

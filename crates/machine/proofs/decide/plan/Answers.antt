@@ -39,34 +39,58 @@ no_plan s q f = absurd (true_false (sym s.requires.p_value_2 ∙ ap is_planned q
 
 pub core-requires : goal.core-requires
 core-requires c =
-    let f = formed_at (goal.at.core-requires c).Start c.in-Core.is in
-    record { k_in_bounds = block_in (goal.at.core-requires c).Start _ f; k_value = records_sound c.args.t.now (length c.args.m.now) c.requires.m_value _ f; m_len = quarters c.args.t.now (length c.args.m.now) c.requires.m_value }
+    let s = (goal.at.core-requires c).Start in
+    let f = formed_at s c.in-Core.is in
+    let n = length c.args.m.now in
+    record {
+      k_in_bounds = block_in s _ f;
+      k_value = records_sound c.args.t.now n c.requires.m_value _ f;
+      m_len = quarters c.args.t.now n c.requires.m_value;
+    }
 
 pub block-requires : goal.block-requires
-block-requires c = block_in (goal.at.block-requires c).Start _ (create_formed (goal.at.block-requires c).Start c.in-TlbCreate.is).0
+block-requires c =
+    let s = (goal.at.block-requires c).Start in
+    block_in s _ (create_formed s c.in-TlbCreate.is).0
 
 pub create-requires : goal.create-requires
 create-requires c =
-    let f = create_formed (goal.at.create-requires c).Start c.in-TlbCreate.is in
-    record { b_len = c.block.ensures.1; b_value = chains_in (goal.at.create-requires c).Start _ f.0 c.block.ensures.0; va_bound = f.1 }
+    let s = (goal.at.create-requires c).Start in
+    let f = create_formed s c.in-TlbCreate.is in
+    record { b_len = c.block.ensures.1; b_value = chains_in s _ f.0 c.block.ensures.0; va_bound = f.1 }
 
 pub block-requires-in-TlbExtend : goal.block-requires-in-TlbExtend
-block-requires-in-TlbExtend c = block_in (goal.at.block-requires-in-TlbExtend c).Start _ (formed_at (goal.at.block-requires-in-TlbExtend c).Start c.in-TlbExtend.is)
+block-requires-in-TlbExtend c =
+    let s = (goal.at.block-requires-in-TlbExtend c).Start in
+    block_in s _ (formed_at s c.in-TlbExtend.is)
 
 pub extend-requires : goal.extend-requires
-extend-requires c = record { b_len = c.block-in-TlbExtend.ensures.1; b_value = chains_in (goal.at.extend-requires c).Start _ (formed_at (goal.at.extend-requires c).Start c.in-TlbExtend.is) c.block-in-TlbExtend.ensures.0 }
+extend-requires c =
+    let s = (goal.at.extend-requires c).Start in
+    let b = c.block-in-TlbExtend.ensures in
+    record { b_len = b.1; b_value = chains_in s _ (formed_at s c.in-TlbExtend.is) b.0 }
 
 pub block-requires-in-TlbAccessed : goal.block-requires-in-TlbAccessed
-block-requires-in-TlbAccessed c = block_in (goal.at.block-requires-in-TlbAccessed c).Start _ (formed_at (goal.at.block-requires-in-TlbAccessed c).Start c.in-TlbAccessed.is)
+block-requires-in-TlbAccessed c =
+    let s = (goal.at.block-requires-in-TlbAccessed c).Start in
+    block_in s _ (formed_at s c.in-TlbAccessed.is)
 
 pub accessed-requires : goal.accessed-requires
-accessed-requires c = record { b_len = c.block-in-TlbAccessed.ensures.1; b_value = chains_in (goal.at.accessed-requires c).Start _ (formed_at (goal.at.accessed-requires c).Start c.in-TlbAccessed.is) c.block-in-TlbAccessed.ensures.0 }
+accessed-requires c =
+    let s = (goal.at.accessed-requires c).Start in
+    let b = c.block-in-TlbAccessed.ensures in
+    record { b_len = b.1; b_value = chains_in s _ (formed_at s c.in-TlbAccessed.is) b.0 }
 
 pub block-requires-in-StoreBuffer : goal.block-requires-in-StoreBuffer
-block-requires-in-StoreBuffer c = block_in (goal.at.block-requires-in-StoreBuffer c).Start _ (formed_at (goal.at.block-requires-in-StoreBuffer c).Start c.in-StoreBuffer.is)
+block-requires-in-StoreBuffer c =
+    let s = (goal.at.block-requires-in-StoreBuffer c).Start in
+    block_in s _ (formed_at s c.in-StoreBuffer.is)
 
 pub drain-requires : goal.drain-requires
-drain-requires c = record { b_len = c.block-in-StoreBuffer.ensures.1; b_value = chains_in (goal.at.drain-requires c).Start _ (formed_at (goal.at.drain-requires c).Start c.in-StoreBuffer.is) c.block-in-StoreBuffer.ensures.0 }
+drain-requires c =
+    let s = (goal.at.drain-requires c).Start in
+    let b = c.block-in-StoreBuffer.ensures in
+    record { b_len = b.1; b_value = chains_in s _ (formed_at s c.in-StoreBuffer.is) b.0 }
 
 pub returns-in-Core : goal.returns-in-Core
 unfolding by_step

@@ -1,6 +1,5 @@
 use mathlib.Core.Path.{sym, ◌∙◌, refl}
 use native.Mathlib.Omega.{arith}
-use Prim.Native.Nat.{◌-◌}
 use Rattle.machine.proofs.Taking.{step_accepted, step_refused, count_asks}
 use Rattle.machine.proofs.Running.{begins, few_accepted, ends, room, spent, refused_there, accepted_there, same_result}
 use Rattle.machine.proofs.run.steps.Goals as goal
@@ -50,7 +49,8 @@ slice_bounds-count-end c = let h = room c.loop-i.invariant.0 c.loop-i-test.true 
 pub count-requires : goal.count-requires
 count-requires c =
     let a = c.take-r.ensures in
-    let x = count_asks _ _ _ c.loop-i.invariant.0.stays_sound (a.value, (a.t_after, a.m_after)) (sym c.is_accepted.ensures ∙ c.if-not-is_accepted.true) in
+    let q = sym c.is_accepted.ensures ∙ c.if-not-is_accepted.true in
+    let x = count_asks _ _ _ c.loop-i.invariant.0.stays_sound (a.value, (a.t_after, a.m_after)) q in
     record { in_bounds = x.0; s_in_bounds = x.1 }
 
 pub returns-then-not-is_accepted : goal.returns-then-not-is_accepted
