@@ -15,7 +15,7 @@ use Rattle.decode.proofs.Ranges.{agree}
 use Rattle.isa.specs.declared.registers.Registers.{Registers}
 use Rattle.isa.specs.declared.interrupts.Events.{Events}
 use Rattle.layout.specs.Layout.{sr}
-use Rattle.isa.specs.Core.{d, mal, ea, spr_at}
+use Rattle.isa.specs.Core.{d, ea, spr_at}
 use Rattle.isa.specs.Interrupts.{mca, lowest_bit, causes_of, events_as}
 use Rattle.store_buffer.specs.System.{sized, aligned}
 use Rattle.isa.proofs.Words.{causes_lt}

@@ -1,12 +1,11 @@
 -- Guards one after the other: the first that fails is refusal 6.
 -- Assumes nothing.
 use mathlib.Core.Path.{◌≡◌, refl, sym}
-use mathlib.Core.Bool.{Bool, true, false, ◌||◌}
-use mathlib.Core.List.{List, [], ◌∷◌}
+use mathlib.Core.Bool.{Bool, true, false}
+use mathlib.Core.List.{[], ◌∷◌}
 use Prim.Native.Nat.{ℕ}
 use Rattle.word.proofs.Tests.{true_false}
-use Rattle.word.specs.Word.{if◌then◌else◌}
-use Rattle.cores.specs.Guards.{Guard, undecided, test, Judged, yield, ask, settle, any_of, is_failure, is_undecided}
+use Rattle.cores.specs.Guards.{undecided, test, Judged, yield, ask, settle, any_of}
 
 pub ask_holds : {A : Type 0} (r : ℕ → A) (b : Bool) (j : Judged A) → b ≡ true → settle r (ask (test b ∷ []) j) ≡ settle r j
 unfolding settle any_of

@@ -18,7 +18,6 @@ use Rattle.steps.specs.declared.Step.{Step}
 use Rattle.steps.specs.declared.Step.TheVariants as kind
 use Rattle.steps.specs.Form.{step_of}
 use Rattle.steps.specs.declared.Answer.{Answer}
-use Rattle.steps.specs.declared.Answer.TheVariants.{Done, Interrupt, Refused}
 use Rattle.cores.specs.Core.{view_of, io_ports_of, is_free}
 use Rattle.machine.specs.declared.action.Action.{Action}
 use Rattle.machine.specs.declared.action.Action.TheVariants as action

@@ -1,6 +1,6 @@
 -- Sound tables stay sound under every step, and keep their length; memory keeps its length; a refusal moves nothing but its count.
 -- Assumes nothing.
-use mathlib.Core.Path.{◌≡◌, refl, sym, ◌∙◌, ap, subst}
+use mathlib.Core.Path.{◌≡◌, refl, ◌∙◌, ap, subst}
 use mathlib.Core.Logic.{inl, inr}
 use mathlib.Core.Bool.{Bool, true, false}
 use mathlib.Core.List.{List}
@@ -13,7 +13,6 @@ use native.Mathlib.Decide.{ℕ_discrete}
 use Rattle.word.specs.Word.{if◌then◌else◌, with_bit}
 use Rattle.word.proofs.Bytes.{Bytes}
 use Rattle.word.proofs.Words.{Words}
-use Rattle.word.proofs.Tests.{true_false}
 use Rattle.layout.specs.Layout as at
 use Rattle.layout.specs.Blocks.{block}
 use Rattle.layout.proofs.Blocks.{with_long, with_block_lem, with_other, with_header, set_block}

@@ -42,7 +42,7 @@ use Rattle.cores.specs.declared.Plan.{Plan}
 use Rattle.cores.proofs.Decisions.{MayBeDone, may_be_done, refused_doable, create_plan, extend_plan, accessed_plan, drain_plan}
 use Rattle.cores.proofs.Executions.{core_plan_lem}
 use Rattle.cores.proofs.Locals.{Run, plan_long, plan_sound, plan_memory, tables_own, tables_other, tables_local}
-use Rattle.machine.specs.declared.action.Action.TheVariants.{Refused, Planned}
+use Rattle.machine.specs.declared.action.Action.TheVariants.{Planned}
 use Rattle.machine.specs.Actions.{answer_of, tables_after, memory_after}
 use Rattle.machine.specs.Decide.{by_step, decided}
 use Rattle.machine.specs.Step.{Stepped, is_accepted, one_more, counted, after, taken, step}

@@ -7,7 +7,17 @@ use Rattle.machine.proofs.Taking.{tried_accepted, tried_refused}
 use Rattle.machine.proofs.by_action.Goals as goal
 
 pub commit-requires : goal.commit-requires
-commit-requires c = record { m_value = c.requires.m_value; t_value = rw c.action-a.ensures (step_doable c.args.t.now c.args.m.now c.requires.m_value (λ i. omega (arith, c.type_inv.t i)) (λ i. omega (arith, c.slice_known-2-1.given i)) c.args.p c.requires.p_value); a_value = rw c.action-a.ensures (no_plan c.args.t.now c.args.m.now c.args.p c.requires.p_value_2) }
+commit-requires c =
+    let t = c.args.t.now in
+    let m = c.args.m.now in
+    let e = c.requires.m_value in
+    record {
+      m_value = e;
+      t_value =
+          rw c.action-a.ensures
+          (step_doable t m e (λ i. grind arith) (λ i. grind arith) c.args.p c.requires.p_value);
+      a_value = rw c.action-a.ensures (no_plan t m c.args.p c.requires.p_value_2);
+    }
 
 pub returns-then-is_accepted : goal.returns-then-is_accepted
 returns-then-is_accepted c = let x = tried_accepted c.args.t.now c.args.m.now (by_step c.args.t.now c.args.m.now c.args.p) _ (sym c.is_accepted.ensures ∙ c.if-is_accepted.true) (c.answer-r.ensures ∙ ap answer_of c.action-a.ensures) in record { value = x.0; t_after = c.commit.ensures.t_after ∙ rw c.action-a.ensures x.1; m_after = c.commit.ensures.m_after ∙ rw c.action-a.ensures x.2 }

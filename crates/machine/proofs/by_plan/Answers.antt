@@ -10,7 +10,19 @@ use Rattle.machine.proofs.Taking.{tried_accepted, tried_refused}
 use Rattle.machine.proofs.by_plan.Goals as goal
 
 pub commit-requires : goal.commit-requires
-commit-requires c = rw c.core_of-k.ensures (let f = planned_asks (cores_of c.args.t.now) (length c.args.m.now) c.args.t.now (step_doable c.args.t.now c.args.m.now c.requires.m_value (λ i. omega (arith, c.type_inv.t i)) (λ i. omega (arith, c.type_inv.m i)) c.args.p c.requires.p_value) _ _ (sym c.plan-plan.ensures) in (has c.args.t.now (length c.args.m.now) c.requires.m_value _ f.0, (chains c.args.t.now (length c.args.m.now) c.requires.m_value _ f.0, (f.2, f.1))))
+commit-requires c =
+    let t = c.args.t.now in
+    let m = c.args.m.now in
+    let e = c.requires.m_value in
+    let d = step_doable t m e (λ i. grind arith) (λ i. grind arith) c.args.p c.requires.p_value in
+    let f = planned_asks (cores_of t) (length m) t d _ _ (sym c.plan-plan.ensures) in
+    rw c.core_of-k.ensures
+    (record {
+      k_in_bounds = has t (length m) e _ f.0;
+      k_value = chains t (length m) e _ f.0;
+      m_value = f.2;
+      k_value_2 = f.1;
+    })
 
 pub returns-then-is_accepted : goal.returns-then-is_accepted
 unfolding tables_after memory_after

@@ -1,7 +1,6 @@
 use mathlib.Core.Path.{sym, ◌∙◌, refl}
 use Rattle.cores.proofs.Judging.{access_unfit, access_fit, data_faults, data_undecided}
 use Rattle.cores.proofs.Held.{records_linked, held_base}
-use Rattle.cores.specs.Plans.{refused}
 use native.Mathlib.Omega.{arith}
 use Rattle.cores.specs.Core.{view_of}
 use Rattle.tlb.specs.declared.Faulting.TheVariants.{Faults, Passes, Undecided}
@@ -13,19 +12,19 @@ pub fits-requires : goal.fits-requires
 fits-requires c = record { b_len = c.requires.sound_beside.long; b_value = records_linked _ _ c.requires.sound_beside.records }
 
 pub returns-then-not-fits : goal.returns-then-not-fits
-returns-then-not-fits c = c.refused.ensures ∙ access_unfit _ _ _ _ _ _ c.fits2.result (rw (← c.user-user.ensures, ← c.data_request-t.ensures) c.fits2.ensures) (c.if-not-fits.true)
+returns-then-not-fits c = c.refused.ensures ∙ access_unfit _ _ _ _ _ _ c.fits.result (rw (← c.user-user.ensures, ← c.data_request-t.ensures) c.fits.ensures) (c.if-not-fits.true)
 
 pub passed-requires : goal.passed-requires
-passed-requires c = record { sound_beside = c.requires.sound_beside; instruction_value = c.requires.instruction_value; second_value = rw (← c.user-user.ensures) (held_base _ c.args.b.now c.args.walk c.user-user.result (hit c.data_request-t.result c.args.walk) c.requires.sound_beside.records (sym c.fits2.ensures ∙ c.if-not-fits.false)); causes_value = c.requires.causes_value }
+passed-requires c = record { sound_beside = c.requires.sound_beside; instruction_value = c.requires.instruction_value; second_value = rw (← c.user-user.ensures) (held_base _ c.args.b.now c.args.walk c.user-user.result (hit c.data_request-t.result c.args.walk) c.requires.sound_beside.records (sym c.fits.ensures ∙ c.if-not-fits.false)); causes_value = c.requires.causes_value }
 
 pub overflow_add-f : goal.overflow_add-f
 overflow_add-f c = let h = with_fault_lt (view_of c.args.b.now) c.args.f.instruction c.args.f.word c.args.f.causes c.requires.causes_value in omega (arith, h)
 
 pub returns-in-Passes : goal.returns-in-Passes
-returns-in-Passes c = c.passed.ensures ∙ access_fit _ _ _ _ _ _ c.fits2.result Passes (rw (← c.user-user.ensures, ← c.data_request-t.ensures) c.fits2.ensures) (c.if-not-fits.false) (sym c.in-Passes.is ∙ (rw (← c.user-user.ensures, ← c.data_request-t.ensures) c.fault-v.ensures))
+returns-in-Passes c = c.passed.ensures ∙ access_fit _ _ _ _ _ _ c.fits.result Passes (rw (← c.user-user.ensures, ← c.data_request-t.ensures) c.fits.ensures) (c.if-not-fits.false) (sym c.in-Passes.is ∙ (rw (← c.user-user.ensures, ← c.data_request-t.ensures) c.fault-v.ensures))
 
 pub returns-in-Faults : goal.returns-in-Faults
-returns-in-Faults c = c.stopped.ensures ∙ (rw (c.requires.causes_value, c.faulted.ensures, c.data_request-t.ensures, with_fault _ _ _) refl ∙ (data_faults _ _ _ _ _ _ ∙ access_fit _ _ _ _ _ _ c.fits2.result Faults (rw (← c.user-user.ensures, ← c.data_request-t.ensures) c.fits2.ensures) (c.if-not-fits.false) (sym c.in-Faults.is ∙ (rw (← c.user-user.ensures, ← c.data_request-t.ensures) c.fault-v.ensures))))
+returns-in-Faults c = c.stopped.ensures ∙ (rw (c.requires.causes_value, c.faulted.ensures, c.data_request-t.ensures, with_fault _ _ _) refl ∙ (data_faults _ _ _ _ _ _ ∙ access_fit _ _ _ _ _ _ c.fits.result Faults (rw (← c.user-user.ensures, ← c.data_request-t.ensures) c.fits.ensures) (c.if-not-fits.false) (sym c.in-Faults.is ∙ (rw (← c.user-user.ensures, ← c.data_request-t.ensures) c.fault-v.ensures))))
 
 pub returns-in-Undecided : goal.returns-in-Undecided
-returns-in-Undecided c = c.refused-in-Undecided.ensures ∙ (data_undecided _ _ _ _ _ _ ∙ access_fit _ _ _ _ _ _ c.fits2.result Undecided (rw (← c.user-user.ensures, ← c.data_request-t.ensures) c.fits2.ensures) (c.if-not-fits.false) (sym c.in-Undecided.is ∙ (rw (← c.user-user.ensures, ← c.data_request-t.ensures) c.fault-v.ensures)))
+returns-in-Undecided c = c.refused-in-Undecided.ensures ∙ (data_undecided _ _ _ _ _ _ ∙ access_fit _ _ _ _ _ _ c.fits.result Undecided (rw (← c.user-user.ensures, ← c.data_request-t.ensures) c.fits.ensures) (c.if-not-fits.false) (sym c.in-Undecided.is ∙ (rw (← c.user-user.ensures, ← c.data_request-t.ensures) c.fault-v.ensures)))

@@ -16,7 +16,7 @@ on_block-requires c =
 pub returns : goal.returns
 unfolding tables_by_plan
 returns c =
-    let s = c in
-    let a = s.before.before.before.args in
+    let a = c.args in
     let d = c.beyond_block.ensures in
-    record { t_after = d.t_after ∙ ap (header_after a.p.write) (part_done a.t.now a.k s.block_at_lem.result s.block_at_lem.ensures (block_after a.p) c.on_block.new.0 c.on_block.ensures); m_after = d.m_after }
+    let q = part_done a.t.now a.k c.block_at-a.result c.block_at-a.ensures (block_after a.p) c.on_block.new.b in
+    record { t_after = d.t_after ∙ ap (header_after a.p.write) (q c.on_block.ensures); m_after = d.m_after }

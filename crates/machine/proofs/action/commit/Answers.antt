@@ -59,13 +59,21 @@ pub returns-in-InitCore : goal.returns-in-InitCore
 unfolding tables_after memory_after
 returns-in-InitCore c =
     let q = c.in-InitCore.is in
-    record { t_after = part_done c.args.t.now _ c.block_at-at.result c.block_at-at.ensures init_core c.init_core.last.0 c.init_core.ensures ∙ rw q refl; m_after = rw q refl }
+    let at = c.block_at-at in
+    record {
+      t_after = part_done c.args.t.now _ at.result at.ensures init_core c.init_core.new.b c.init_core.ensures ∙ rw q refl;
+      m_after = rw q refl;
+    }
 
 pub returns-in-StartCore : goal.returns-in-StartCore
 unfolding tables_after memory_after
 returns-in-StartCore c =
     let q = c.in-StartCore.is in
-    record { t_after = part_done c.args.t.now _ c.block_at-at-in-StartCore.result c.block_at-at-in-StartCore.ensures start_core c.start_core.last.0 c.start_core.ensures ∙ rw q refl; m_after = rw q refl }
+    let at = c.block_at-at-in-StartCore in
+    record {
+      t_after = part_done c.args.t.now _ at.result at.ensures start_core c.start_core.new.b c.start_core.ensures ∙ rw q refl;
+      m_after = rw q refl;
+    }
 
 pub returns-in-Sample : goal.returns-in-Sample
 unfolding tables_after memory_after

@@ -19,53 +19,78 @@ use Rattle.machine.specs.inner.Split.{formed, is_planned}
 use Rattle.machine.proofs.Fitting.{has, records_sound, chains, quarters}
 use Rattle.machine.proofs.Forms.{found}
 use Rattle.machine.proofs.decide.plan.Goals as goal
+use Rattle.machine.proofs.decide.plan.Goals.{Start}
 
 -- what the step of an arm has: a core that is there, its block and its chains; and that it has a plan
-formed_at : (s : tie.Start) {x : Step} → s.args.p ≡ x → formed (cores_of s.args.t.now) x ≡ true
-formed_at s q = found (cores_of s.args.t.now) s.requires.1.0 q
+formed_at : (s : Start) {x : Step} → s.args.p ≡ x → formed (cores_of s.args.t.now) x ≡ true
+formed_at s q = found (cores_of s.args.t.now) s.requires.p_value q
 
-create_formed : (s : tie.Start) {k va : ℕ} → s.args.p ≡ TlbCreate k va → (ltb k (cores_of s.args.t.now) ≡ true) × (va < 2 ^ 20)
+create_formed : (s : Start) {k va : ℕ} → s.args.p ≡ TlbCreate k va → (ltb k (cores_of s.args.t.now) ≡ true) × (va < 2 ^ 20)
 create_formed s {k} {va} q = let f = formed_at s q in (and_left (ltb k (cores_of s.args.t.now)) _ f, ltb-true va (2 ^ 20) (and_right (ltb k (cores_of s.args.t.now)) _ f))
 
-block_in : (s : tie.Start) (k : ℕ) → ltb k (cores_of s.args.t.now) ≡ true → 32 + 256 * k + 256 ≤ length s.args.t.now
-block_in s k h = has s.args.t.now (length s.args.m.now) s.requires.0 k h
+block_in : (s : Start) (k : ℕ) → ltb k (cores_of s.args.t.now) ≡ true → 32 + 256 * k + 256 ≤ length s.args.t.now
+block_in s k h = has s.args.t.now (length s.args.m.now) s.requires.m_value k h
 
-chains_in : (s : tie.Start) (k : ℕ) {b : List ℕ} → ltb k (cores_of s.args.t.now) ≡ true → b ≡ block s.args.t.now k → linked b ≡ true
-chains_in s k h q = ap linked q ∙ chains s.args.t.now (length s.args.m.now) s.requires.0 k h
+chains_in : (s : Start) (k : ℕ) {b : List ℕ} → ltb k (cores_of s.args.t.now) ≡ true → b ≡ block s.args.t.now k → linked b ≡ true
+chains_in s k h q = ap linked q ∙ chains s.args.t.now (length s.args.m.now) s.requires.m_value k h
 
-no_plan : (s : tie.Start) {x : Step} {A : Type 0} → s.args.p ≡ x → is_planned x ≡ false → A
-no_plan s q f = absurd (true_false (sym s.requires.1.1 ∙ ap is_planned q ∙ f))
+no_plan : (s : Start) {x : Step} {A : Type 0} → s.args.p ≡ x → is_planned x ≡ false → A
+no_plan s q f = absurd (true_false (sym s.requires.p_value_2 ∙ ap is_planned q ∙ f))
 
 pub core-requires : goal.core-requires
 core-requires c =
-    let f = formed_at c c.in-Core.is in
-    record { k_in_bounds = block_in c _ f; k_value = records_sound c.args.t.now (length c.args.m.now) c.requires.m_value _ f; m_len = quarters c.args.t.now (length c.args.m.now) c.requires.m_value }
+    let s = (goal.at.core-requires c).Start in
+    let f = formed_at s c.in-Core.is in
+    let n = length c.args.m.now in
+    record {
+      k_in_bounds = block_in s _ f;
+      k_value = records_sound c.args.t.now n c.requires.m_value _ f;
+      m_len = quarters c.args.t.now n c.requires.m_value;
+    }
 
 pub block-requires : goal.block-requires
-block-requires c = block_in c _ (create_formed c c.in-TlbCreate.is).0
+block-requires c =
+    let s = (goal.at.block-requires c).Start in
+    block_in s _ (create_formed s c.in-TlbCreate.is).0
 
 pub create-requires : goal.create-requires
 create-requires c =
-    let f = create_formed c c.in-TlbCreate.is in
-    record { b_len = c.block.ensures.1; b_value = chains_in c _ f.0 c.block.ensures.0; va_bound = f.1 }
+    let s = (goal.at.create-requires c).Start in
+    let f = create_formed s c.in-TlbCreate.is in
+    record { b_len = c.block.ensures.1; b_value = chains_in s _ f.0 c.block.ensures.0; va_bound = f.1 }
 
 pub block-requires-in-TlbExtend : goal.block-requires-in-TlbExtend
-block-requires-in-TlbExtend c = block_in c _ (formed_at c c.in-TlbExtend.is)
+block-requires-in-TlbExtend c =
+    let s = (goal.at.block-requires-in-TlbExtend c).Start in
+    block_in s _ (formed_at s c.in-TlbExtend.is)
 
 pub extend-requires : goal.extend-requires
-extend-requires c = record { b_len = c.block-in-TlbExtend.ensures.1; b_value = chains_in c _ (formed_at c c.in-TlbExtend.is) c.block-in-TlbExtend.ensures.0 }
+extend-requires c =
+    let s = (goal.at.extend-requires c).Start in
+    let b = c.block-in-TlbExtend.ensures in
+    record { b_len = b.1; b_value = chains_in s _ (formed_at s c.in-TlbExtend.is) b.0 }
 
 pub block-requires-in-TlbAccessed : goal.block-requires-in-TlbAccessed
-block-requires-in-TlbAccessed c = block_in c _ (formed_at c c.in-TlbAccessed.is)
+block-requires-in-TlbAccessed c =
+    let s = (goal.at.block-requires-in-TlbAccessed c).Start in
+    block_in s _ (formed_at s c.in-TlbAccessed.is)
 
 pub accessed-requires : goal.accessed-requires
-accessed-requires c = record { b_len = c.block-in-TlbAccessed.ensures.1; b_value = chains_in c _ (formed_at c c.in-TlbAccessed.is) c.block-in-TlbAccessed.ensures.0 }
+accessed-requires c =
+    let s = (goal.at.accessed-requires c).Start in
+    let b = c.block-in-TlbAccessed.ensures in
+    record { b_len = b.1; b_value = chains_in s _ (formed_at s c.in-TlbAccessed.is) b.0 }
 
 pub block-requires-in-StoreBuffer : goal.block-requires-in-StoreBuffer
-block-requires-in-StoreBuffer c = block_in c _ (formed_at c c.in-StoreBuffer.is)
+block-requires-in-StoreBuffer c =
+    let s = (goal.at.block-requires-in-StoreBuffer c).Start in
+    block_in s _ (formed_at s c.in-StoreBuffer.is)
 
 pub drain-requires : goal.drain-requires
-drain-requires c = record { b_len = c.block-in-StoreBuffer.ensures.1; b_value = chains_in c _ (formed_at c c.in-StoreBuffer.is) c.block-in-StoreBuffer.ensures.0 }
+drain-requires c =
+    let s = (goal.at.drain-requires c).Start in
+    let b = c.block-in-StoreBuffer.ensures in
+    record { b_len = b.1; b_value = chains_in s _ (formed_at s c.in-StoreBuffer.is) b.0 }
 
 pub returns-in-Core : goal.returns-in-Core
 unfolding by_step
@@ -88,25 +113,25 @@ unfolding by_step
 returns-in-StoreBuffer c = rw (c.in-StoreBuffer.is, c.drain.ensures, c.block-in-StoreBuffer.ensures.0) refl
 
 pub returns-in-SendIpi : goal.returns-in-SendIpi
-returns-in-SendIpi c = no_plan c c.in-SendIpi.is refl
+returns-in-SendIpi c = no_plan (goal.at.returns-in-SendIpi c).Start c.in-SendIpi.is refl
 
 pub returns-in-SendEoi : goal.returns-in-SendEoi
-returns-in-SendEoi c = no_plan c c.in-SendEoi.is refl
+returns-in-SendEoi c = no_plan (goal.at.returns-in-SendEoi c).Start c.in-SendEoi.is refl
 
 pub returns-in-InitCore : goal.returns-in-InitCore
-returns-in-InitCore c = no_plan c c.in-InitCore.is refl
+returns-in-InitCore c = no_plan (goal.at.returns-in-InitCore c).Start c.in-InitCore.is refl
 
 pub returns-in-StartCore : goal.returns-in-StartCore
-returns-in-StartCore c = no_plan c c.in-StartCore.is refl
+returns-in-StartCore c = no_plan (goal.at.returns-in-StartCore c).Start c.in-StartCore.is refl
 
 pub returns-in-Sample : goal.returns-in-Sample
-returns-in-Sample c = no_plan c c.in-Sample.is refl
+returns-in-Sample c = no_plan (goal.at.returns-in-Sample c).Start c.in-Sample.is refl
 
 pub returns-in-Deliver : goal.returns-in-Deliver
-returns-in-Deliver c = no_plan c c.in-Deliver.is refl
+returns-in-Deliver c = no_plan (goal.at.returns-in-Deliver c).Start c.in-Deliver.is refl
 
 pub returns-in-SetLine : goal.returns-in-SetLine
-returns-in-SetLine c = no_plan c c.in-SetLine.is refl
+returns-in-SetLine c = no_plan (goal.at.returns-in-SetLine c).Start c.in-SetLine.is refl
 
 pub returns-in-NotAStep : goal.returns-in-NotAStep
-returns-in-NotAStep c = no_plan c c.in-NotAStep.is refl
+returns-in-NotAStep c = no_plan (goal.at.returns-in-NotAStep c).Start c.in-NotAStep.is refl

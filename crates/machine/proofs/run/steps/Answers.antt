@@ -1,6 +1,5 @@
 use mathlib.Core.Path.{sym, ◌∙◌, refl}
 use native.Mathlib.Omega.{arith}
-use Prim.Native.Nat.{◌-◌}
 use Rattle.machine.proofs.Taking.{step_accepted, step_refused, count_asks}
 use Rattle.machine.proofs.Running.{begins, few_accepted, ends, room, spent, refused_there, accepted_there, same_result}
 use Rattle.machine.proofs.run.steps.Goals as goal
@@ -48,10 +47,29 @@ pub slice_bounds-count-end : goal.slice_bounds-count-end
 slice_bounds-count-end c = let h = room c.loop-i.invariant.0 c.loop-i-test.true in omega (arith, h)
 
 pub count-requires : goal.count-requires
-count-requires c = count_asks _ _ _ c.loop-i.invariant.0.stays_sound c.take-r.ensures (sym c.is_accepted.ensures ∙ c.if-not-is_accepted.true)
+count-requires c =
+    let a = c.take-r.ensures in
+    let q = sym c.is_accepted.ensures ∙ c.if-not-is_accepted.true in
+    let x = count_asks _ _ _ c.loop-i.invariant.0.stays_sound (a.value, (a.t_after, a.m_after)) q in
+    record { in_bounds = x.0; s_in_bounds = x.1 }
 
 pub returns-then-not-is_accepted : goal.returns-then-not-is_accepted
-returns-then-not-is_accepted c = let q = sym c.is_accepted.ensures ∙ c.if-not-is_accepted.true in same_result (c.result-then-not-is_accepted.ensures.0, c.result-then-not-is_accepted.ensures.1 ∙ c.stop_of.ensures) refl refl (refused_there c.loop-i.invariant.0 c.loop-i-test.true c.if-accepted-limit.false _ _ _ (step_refused _ _ _ c.loop-i.invariant.0.stays_sound c.take-r.ensures q c.count.ensures) q)
+returns-then-not-is_accepted c =
+    let a = c.take-r.ensures in
+    let q = sym c.is_accepted.ensures ∙ c.if-not-is_accepted.true in
+    same_result
+    (c.result-then-not-is_accepted.ensures.0, c.result-then-not-is_accepted.ensures.1 ∙ c.stop_of.ensures)
+    refl
+    refl
+    (refused_there
+    c.loop-i.invariant.0
+    c.loop-i-test.true
+    c.if-accepted-limit.false
+    _
+    _
+    _
+    (step_refused _ _ _ c.loop-i.invariant.0.stays_sound (a.value, (a.t_after, a.m_after)) q c.count.ensures)
+    q)
 
 pub overflow_add-accepted : goal.overflow_add-accepted
 overflow_add-accepted c = let h = few_accepted c.loop-i.invariant.0 in omega (arith, h)
@@ -60,7 +78,22 @@ pub loop-i-smaller : goal.loop-i-smaller
 loop-i-smaller c = omega (arith, c.loop-i-test.true)
 
 pub loop-i-preserved : goal.loop-i-preserved
-loop-i-preserved c = let q = sym c.is_accepted.ensures ∙ c.if-not-is_accepted.false in (accepted_there c.loop-i.invariant.0 c.loop-i-test.true c.if-accepted-limit.false _ _ _ (step_accepted _ _ _ c.loop-i.invariant.0.stays_sound c.take-r.ensures q) q (λ i. omega (arith, c.type_inv.t i)) (λ i. omega (arith, c.type_inv.m i)), (c.take-r.auto.0 ∙ c.loop-i.invariant.1.0, c.take-r.auto.1.0 ∙ c.loop-i.invariant.1.1))
+loop-i-preserved c =
+    let a = c.take-r.ensures in
+    let q = sym c.is_accepted.ensures ∙ c.if-not-is_accepted.false in (
+      accepted_there
+          c.loop-i.invariant.0
+          c.loop-i-test.true
+          c.if-accepted-limit.false
+          _
+          _
+          _
+          (step_accepted _ _ _ c.loop-i.invariant.0.stays_sound (a.value, (a.t_after, a.m_after)) q)
+          q
+          (λ i. omega (arith, c.type_inv.t i))
+          (λ i. omega (arith, c.type_inv.m i)),
+      (c.take-r.auto.t ∙ c.loop-i.invariant.1.0, c.take-r.auto.m ∙ c.loop-i.invariant.1.1),
+    )
 
 pub shape_of-t : goal.shape_of-t
 shape_of-t c = c.loop-i.invariant.1.0
