@@ -1,6 +1,6 @@
-// The interface for C and Rust (include/mips86.h): make, step, run, reach, apart, why and translate on lent tables and
-// memory, and disassemble on a word and lent bytes. A slice is a pointer and a length in C, and each operation answers
-// one number; run, reach and translate write one more word, why 18.
+// The operations of the interface for C and Rust (mips86_c exports them, include/mips86.h): make, step, run, reach,
+// apart, why and translate on lent tables and memory, and disassemble on a word and lent bytes. A slice is a pointer and
+// a length in C, and each operation answers one number; run, reach and translate write one more word, why 18.
 #![tactic(auto)]
 
 ghost use Rattle.std.specs.Prelude.{◌≡◌, length};
@@ -17,8 +17,7 @@ ghost use Rattle.disassemble.specs.Disassembly.{disassemble_on, disassembled_num
 ghost use Rattle.numbers.specs.Numbers.{refusal_or0};
 
 // Makes a machine: 0, or 100 and the number of a refusal.
-#[unsafe(no_mangle)]
-pub extern "C" fn mips86_make(tables: &mut [u32], memory: &[u8], cores: u32) -> u32
+pub fn mips86_make(tables: &mut [u32], memory: &[u8], cores: u32) -> u32
     ensures value { result ≡ refusal_or0 (made.refusal cores (length memory.now) (length tables.old)) }
     ensures tables_after { tables.new ≡ made.made_or (made.refusal cores (length memory.now) (length tables.old)) cores (length memory.now) tables.old }
 {
@@ -26,8 +25,7 @@ pub extern "C" fn mips86_make(tables: &mut [u32], memory: &[u8], cores: u32) -> 
 }
 
 // One step of six words: 0 done, 1 to 8 an interrupt of level 0 to 7, 100 and the number of a refusal.
-#[unsafe(no_mangle)]
-pub extern "C" fn mips86_step(tables: &mut [u32], memory: &mut [u8], step: &[u32]) -> u32
+pub fn mips86_step(tables: &mut [u32], memory: &mut [u8], step: &[u32]) -> u32
     ensures value { result ≡ answer_number (one.step tables.old memory.old step.now).answer }
     ensures tables_after { tables.new ≡ (one.step tables.old memory.old step.now).tables }
     ensures memory_after { memory.new ≡ (one.step tables.old memory.old step.now).memory }
@@ -36,8 +34,7 @@ pub extern "C" fn mips86_step(tables: &mut [u32], memory: &mut [u8], step: &[u32
 }
 
 // A schedule of steps: 0 the end, 1 the limit is spent, 100 and the number of a refusal; and how many steps were accepted.
-#[unsafe(no_mangle)]
-pub extern "C" fn mips86_run(
+pub fn mips86_run(
     tables: &mut [u32],
     memory: &mut [u8],
     schedule: &[u32],
@@ -56,8 +53,7 @@ pub extern "C" fn mips86_run(
 }
 
 // The pages that a group reaches: 0, or 100 and the number of a refusal; and whether a page beyond memory is reached.
-#[unsafe(no_mangle)]
-pub extern "C" fn mips86_reach(
+pub fn mips86_reach(
     tables: &[u32],
     memory: &[u8],
     group: u32,
@@ -74,8 +70,7 @@ pub extern "C" fn mips86_reach(
 }
 
 // Whether a group is apart from the rest: 0 no, 1 yes, 100 and the number of a refusal. A yes makes the promise of separation.
-#[unsafe(no_mangle)]
-pub extern "C" fn mips86_apart(tables: &[u32], memory: &[u8], group: u32) -> u32
+pub fn mips86_apart(tables: &[u32], memory: &[u8], group: u32) -> u32
     ensures value { result ≡ verdict_number (apart_on group tables.now memory.now) }
     ensures promised { result ≡ 1 → Promised group (machine_of tables.now memory.now) }
 {
@@ -84,14 +79,7 @@ pub extern "C" fn mips86_apart(tables: &[u32], memory: &[u8], group: u32) -> u32
 
 // Why a group is not apart: 0 no reason after reason `after`, 1 to 6 the first one, with the rest of it in 18 words,
 // 100 and the number of a refusal.
-#[unsafe(no_mangle)]
-pub extern "C" fn mips86_why(
-    tables: &[u32],
-    memory: &[u8],
-    group: u32,
-    after: u32,
-    words: &mut [u32],
-) -> u32
+pub fn mips86_why(tables: &[u32], memory: &[u8], group: u32, after: u32, words: &mut [u32]) -> u32
     ensures value { result ≡ (told after group tables.now memory.now words.old).number }
     ensures words_after { words.new ≡ (told after group tables.now memory.now words.old).words }
 {
@@ -99,8 +87,7 @@ pub extern "C" fn mips86_why(
 }
 
 // Where up to 64 virtual addresses of a core lead, three words each: 0, or 100 and the number of a refusal; and how many table entries were read.
-#[unsafe(no_mangle)]
-pub extern "C" fn mips86_translate(
+pub fn mips86_translate(
     tables: &[u32],
     memory: &[u8],
     core: u32,
@@ -118,8 +105,7 @@ pub extern "C" fn mips86_translate(
 }
 
 // The text of an instruction word in 32 bytes, zero beyond it: its length, or 100 and the number of a refusal.
-#[unsafe(no_mangle)]
-pub extern "C" fn mips86_disassemble(word: u32, text: &mut [u8]) -> u32
+pub fn mips86_disassemble(word: u32, text: &mut [u8]) -> u32
     ensures value { result ≡ disassembled_number (disassemble_on word text.old).answer }
     ensures text_after { text.new ≡ (disassemble_on word text.old).bytes }
 {
