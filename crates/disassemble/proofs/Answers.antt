@@ -13,17 +13,13 @@ use Rattle.forms.specs.Syntax.{syntax_of}
 use Rattle.forms.specs.inner.Forms.{form_of}
 use Rattle.disassemble.specs.declared.Disassembled.{Disassembled}
 use Rattle.disassemble.specs.declared.Disassembled.TheVariants.{Length, Refused}
-use Rattle.disassemble.specs.Disassembly.{disassembly, disassemble_on, disassembled_number}
+use Rattle.disassemble.specs.Disassembly.{disassembly, disassemble_on}
 use Rattle.disassemble.specs.inner.Texts.{form_text}
 use Rattle.disassemble.proofs.Rows.{form_text_lem, text_fits}
 
--- the answer and the bytes, and so the number of the answer
+-- the answer and the bytes
 abbrev Gives : ℕ → List ℕ → Disassembled → List ℕ → Type 0
 Gives w b a d = (a ≡ (disassemble_on w b).answer) × (d ≡ (disassemble_on w b).bytes)
-
-pub numbered : {a : Disassembled} {d : List ℕ} (w : ℕ) (b : List ℕ) → Gives w b a d
-    → (a ≡ (disassemble_on w b).answer) × ((d ≡ (disassemble_on w b).bytes) × (disassembled_number a ≡ disassembled_number (disassemble_on w b).answer))
-numbered w b g = (g.0, (g.1, ap (λ (x : Disassembled). disassembled_number x) g.0))
 
 pub refused : (w : ℕ) (b : List ℕ) → (length b ≡ 32 → ⊥) → Gives w b (Refused 17) b
 unfolding disassemble_on

@@ -155,10 +155,21 @@ module _ (g : ℕ) (t m : List ℕ) where
         apart_where_none = apart_where (sound t (length m)) (is_group g (cores_of t)) (first_after g t m 6 0) (no_reason g t m);
       }
 
--- what the function promises of its answer
-pub promised : (a g : ℕ) (t m : List ℕ) (r : Reason) → r ≡ why_after a g t m
-    → (r ≡ why_after a g t m) × (Grounded g t m r × ((a ≡ 0 → r ≡ NoReason → apart_on g t m ≡ verdict.Yes) × ((a ≡ 0 → apart_on g t m ≡ verdict.Yes → r ≡ NoReason) × (why_number r ≡ why_number (why_after a g t m)))))
+-- what the function promises of its answer, each clause by its name
+pub promised : (a g : ℕ) (t m : List ℕ) (r : Reason) → r ≡ why_after a g t m → record {
+  value : r ≡ why_after a g t m;
+  grounded : Grounded g t m r;
+  m_value : a ≡ 0 → r ≡ NoReason → apart_on g t m ≡ verdict.Yes;
+  value_2 : a ≡ 0 → apart_on g t m ≡ verdict.Yes → r ≡ NoReason;
+  result_value : why_number r ≡ why_number (why_after a g t m);
+}
 promised a g t m r e =
     let L : Law g t m = why_law g t m in
     let at : a ≡ 0 → r ≡ why_after 0 g t m = λ z. e ∙ ap (λ (n : ℕ). why_after n g t m) z in
-    (e, (subst (Grounded g t m) (sym e) (L.grounded a), (λ z n. L.apart_where_none (sym (at z) ∙ n), (λ z y. at z ∙ L.none_where_apart y, ap (λ (x : Reason). why_number x) e))))
+    record {
+      value = e;
+      grounded = subst (Grounded g t m) (sym e) (L.grounded a);
+      m_value = λ z n. L.apart_where_none (sym (at z) ∙ n);
+      value_2 = λ z y. at z ∙ L.none_where_apart y;
+      result_value = ap (λ (x : Reason). why_number x) e;
+    }

@@ -19,10 +19,19 @@ module _ (k : ℕ) (l t m r : List ℕ) where
   abbrev pub Gives : Translated → List ℕ → Type 0
   Gives a o = (a ≡ (translate_on k l t m r).answer) × (o ≡ (translate_on k l t m r).words)
 
-  -- and so the numbers of the answer
-  pub numbered : {a : Translated} {o : List ℕ} → Gives a o
-      → (a ≡ (translate_on k l t m r).answer) × ((o ≡ (translate_on k l t m r).words) × ((translated_number a ≡ translated_number (translate_on k l t m r).answer) × (reads_of a ≡ reads_of (translate_on k l t m r).answer)))
-  numbered g = (g.0, (g.1, (ap (λ (x : Translated). translated_number x) g.0, ap (λ (x : Translated). reads_of x) g.0)))
+  -- and so the numbers of the answer: each clause by its name
+  pub numbered : {a : Translated} {o : List ℕ} → Gives a o → record {
+    value : a ≡ (translate_on k l t m r).answer;
+    answers_after : o ≡ (translate_on k l t m r).words;
+    result_value : translated_number a ≡ translated_number (translate_on k l t m r).answer;
+    result_value_2 : reads_of a ≡ reads_of (translate_on k l t m r).answer;
+  }
+  numbered g = record {
+    value = g.0;
+    answers_after = g.1;
+    result_value = ap (λ (x : Translated). translated_number x) g.0;
+    result_value_2 = ap (λ (x : Translated). reads_of x) g.0;
+  }
 
   pub unsound : sound t (length m) ≡ false → Gives (Refused 4) r
   unfolding translate_on

@@ -211,7 +211,9 @@ own (Lowest v) w = go (ltb (page w) (page v)) refl
 lowest_all : (f : Found) (l : List Way) → all (λ w. not_lower (lower f (lowest_way l)) (page w)) l ≡ true
 unfolding lower lowest_way all
 lowest_all f [] = refl
-lowest_all f (w ∷ l) = rw (← lower_assoc f (Lowest w) (lowest_way l)) (and_both _ _ (still (lower f (Lowest w)) (lowest_way l) (page w) (own f w)) (lowest_all (lower f (Lowest w)) l))
+lowest_all f (w ∷ l) =
+    subst (λ (z : Found). all (λ v. not_lower z (page v)) (w ∷ l) ≡ true) (lower_assoc f (Lowest w) (lowest_way l))
+    (and_both _ _ (still (lower f (Lowest w)) (lowest_way l) (page w) (own f w)) (lowest_all (lower f (Lowest w)) l))
 
 -- where nothing is lower, nothing else is found
 quiet_none : (f : Found) (l : List Way) → all (λ w. not_lower f (page w)) l ≡ true → lower f (lowest_way l) ≡ f

@@ -1,9 +1,13 @@
+use mathlib.Core.Path.{ap}
 use native.Mathlib.Omega.{arith}
-use Rattle.disassemble.proofs.Answers.{numbered, refused, form_fits, written}
+use Rattle.disassemble.specs.Disassembly.{disassembled_number}
+use Rattle.disassemble.proofs.Answers.{refused, form_fits, written}
 use Rattle.disassemble.proofs.disassemble.Goals as goal
 
 pub returns-then-text-ne32 : goal.returns-then-text-ne32
-returns-then-text-ne32 c = numbered c.args.w _ (refused c.args.w _ c.if-text-ne32.true)
+returns-then-text-ne32 c =
+    let g = refused c.args.w c.args.text.now c.if-text-ne32.true in
+    record { value = g.0; text_after = g.1; result_value = ap disassembled_number g.0 }
 
 pub put_form-n-requires : goal.put_form-n-requires
 put_form-n-requires c = omega (arith, form_fits c.args.w c.form_of.ensures, c.if-text-ne32.false)
@@ -18,4 +22,6 @@ overflow_cast-result c =
     record { fits = omega (arith, c.put_form-n.ensures.place, form_fits c.args.w c.form_of.ensures) }
 
 pub returns : goal.returns
-returns c = numbered c.args.w _ (written c.args.w c.if-text-ne32.false c.form_of.ensures c.put_form-n.ensures c.clear.ensures)
+returns c =
+    let g = written c.args.w c.if-text-ne32.false c.form_of.ensures c.put_form-n.ensures c.clear.ensures in
+    record { value = g.0; text_after = g.1; result_value = ap disassembled_number g.0 }

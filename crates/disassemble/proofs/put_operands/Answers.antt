@@ -7,37 +7,33 @@ use Rattle.disassemble.proofs.put_operands.Goals as goal
 
 pub put_operand-requires : goal.put_operand-requires
 put_operand-requires c =
-    let l = c.l-1.given in
-    omega (arith, ap length (one_text c.args.w l.0.0 l.1), c.requires)
+    omega (arith, ap length (one_text c.args.w c.in-One.a c.in-One.is), c.requires)
 
 pub put_operand-p-requires : goal.put_operand-p-requires
 put_operand-p-requires c =
-    let l = c.l-in-Two-1.given in
-    omega (arith, two_length c.args.w l.0.0 l.0.1.0 l.1, c.requires)
+    omega (arith, two_length c.args.w c.in-Two.a c.in-Two.b c.in-Two.is, c.requires)
 
 pub put_operand-requires-in-Two : goal.put_operand-requires-in-Two
 put_operand-requires-in-Two c =
-    let l = c.l-in-Two-1.given in
     let p = c.put_operand-p.ensures in
-    omega (arith, two_length c.args.w l.0.0 l.0.1.0 l.1, p.place, p.kept, c.requires)
+    omega (arith, two_length c.args.w c.in-Two.a c.in-Two.b c.in-Two.is, p.place, p.kept, c.requires)
 
 pub put_operand-p-requires-in-Three : goal.put_operand-p-requires-in-Three
 put_operand-p-requires-in-Three c =
-    let l = c.l-in-Three-1.given in
-    omega (arith, three_length c.args.w l.0.0 l.0.1.0 l.0.1.1.0 l.1, c.requires)
+    omega (arith, three_length c.args.w c.in-Three.a c.in-Three.b c.in-Three.c c.in-Three.is, c.requires)
 
 pub put_operand-q-requires : goal.put_operand-q-requires
 put_operand-q-requires c =
-    let l = c.l-in-Three-1.given in
     let p = c.put_operand-p-in-Three.ensures in
-    omega (arith, three_length c.args.w l.0.0 l.0.1.0 l.0.1.1.0 l.1, p.place, p.kept, c.requires)
+    let t = three_length c.args.w c.in-Three.a c.in-Three.b c.in-Three.c c.in-Three.is in
+    omega (arith, t, p.place, p.kept, c.requires)
 
 pub put_operand-requires-in-Three : goal.put_operand-requires-in-Three
 put_operand-requires-in-Three c =
-    let l = c.l-in-Three-1.given in
     let p = c.put_operand-p-in-Three.ensures in
     let q = c.put_operand-q.ensures in
-    omega (arith, three_length c.args.w l.0.0 l.0.1.0 l.0.1.1.0 l.1, p.place, p.kept, q.place, q.kept, c.requires)
+    let t = three_length c.args.w c.in-Three.a c.in-Three.b c.in-Three.c c.in-Three.is in
+    omega (arith, t, p.place, p.kept, q.place, q.kept, c.requires)
 
 pub returns-in-None : goal.returns-in-None
 returns-in-None c =
@@ -46,16 +42,14 @@ returns-in-None c =
 
 pub returns-in-One : goal.returns-in-One
 returns-in-One c =
-    let l = c.l-1.given in
-    reworded (one_text c.args.w l.0.0 l.1) c.put_operand.ensures
+    reworded (one_text c.args.w c.in-One.a c.in-One.is) c.put_operand.ensures
 
 pub returns-in-Two : goal.returns-in-Two
 returns-in-Two c =
-    let l = c.l-in-Two-1.given in
-    reworded (two_text c.args.w l.0.0 l.0.1.0 l.1) (follow c.put_operand-p.ensures c.put_operand-in-Two.ensures)
+    reworded (two_text c.args.w c.in-Two.a c.in-Two.b c.in-Two.is)
+    (follow c.put_operand-p.ensures c.put_operand-in-Two.ensures)
 
 pub returns-in-Three : goal.returns-in-Three
 returns-in-Three c =
-    let l = c.l-in-Three-1.given in
-    reworded (three_text c.args.w l.0.0 l.0.1.0 l.0.1.1.0 l.1)
+    reworded (three_text c.args.w c.in-Three.a c.in-Three.b c.in-Three.c c.in-Three.is)
     (follow c.put_operand-p-in-Three.ensures (follow c.put_operand-q.ensures c.put_operand-in-Three.ensures))
