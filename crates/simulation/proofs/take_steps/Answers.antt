@@ -33,4 +33,11 @@ pub shape_of-out : goal.shape_of-out
 shape_of-out c = c.loop-i.invariant.5.kept
 
 pub returns : goal.returns
-returns c =  record { put = (lines_all _ _ c.loop-i.invariant.2 c.loop-i-test.false _ _ _ c.loop-i.invariant.5, counts _ _ (omega (arith, c.loop-i.invariant.3, c.loop-i.invariant.2, c.loop-i.invariant.5.kept, c.requires.0, c.requires.1))); accepted_after = (after_all _ _ c.loop-i.invariant.2 c.loop-i-test.false _ _ c.loop-i.invariant.6, (refl, refl, omega (arith, c.loop-i.invariant.4, c.loop-i.invariant.2))); steps_value =  }
+returns c = record {
+  put = (
+    lines_all _ _ c.loop-i.invariant.2 c.loop-i-test.false _ _ _ c.loop-i.invariant.5,
+    counts _ _ (omega (arith, c.loop-i.invariant.3, c.loop-i.invariant.2, c.loop-i.invariant.5.kept, c.requires.0, c.requires.1)),
+  );
+  accepted_after = after_all _ _ c.loop-i.invariant.2 c.loop-i-test.false _ _ c.loop-i.invariant.6;
+  steps_value = (refl, refl, omega (arith, c.loop-i.invariant.4, c.loop-i.invariant.2));
+}
