@@ -10,11 +10,18 @@ pub returns-then-byte-gt51 : goal.returns-then-byte-gt51
 returns-then-byte-gt51 c = (sym (core_high _ _ c.requires c.if-byte-gt51.true), omega arith)
 
 pub returns-then-a-next-ne0 : goal.returns-then-a-next-ne0
-returns-then-a-next-ne0 c = (sym (core_long _ _ c.requires c.if-next-a.true c.if-byte-lt48.false c.if-a-next-ne0.true), omega arith)
+returns-then-a-next-ne0 c =
+    let long = core_long _ _ c.requires c.if-next-a.true c.if-byte-lt48.false c.if-a-next-ne0.true in
+    (sym long, omega arith)
 
 pub returns-then-next-a : goal.returns-then-next-a
 returns-then-next-a c =
-    (c.wide-k.ensures.0 ∙ sym (core_ended _ _ c.requires c.if-next-a.true c.if-byte-lt48.false c.if-byte-gt51.false c.if-a-next-ne0.false), omega (arith, c.wide-k.ensures.0))
+    let is = c.wide-k.ensures.0 in
+    let digit = core_ended _ _ c.requires c.if-next-a.true c.if-byte-lt48.false c.if-byte-gt51.false in
+    (is ∙ sym (digit c.if-a-next-ne0.false), omega (arith, is))
 
 pub returns : goal.returns
-returns c = (c.wide-k.ensures.0 ∙ sym (core_last _ _ c.requires c.if-byte-lt48.false c.if-byte-gt51.false c.if-next-a.false), omega (arith, c.wide-k.ensures.0))
+returns c =
+    let is = c.wide-k.ensures.0 in
+    let last = core_last _ _ c.requires c.if-byte-lt48.false c.if-byte-gt51.false c.if-next-a.false in
+    (is ∙ sym last, omega (arith, is))
