@@ -11,7 +11,6 @@ use lib.Seq.{drop-drop, drop_at, drop-append-le, take-append-le}
 use borrow.Author.Tests.{le-leb}
 use Rattle.word.specs.Bytes.{words_in}
 use Rattle.word.proofs.Bytes.{words_take}
-use Rattle.machine.specs.Step.{Stepped, step}
 use Rattle.lines.specs.Lines.{line_text}
 use Rattle.simulation.specs.Simulated.{Progress, step_at, after_steps, step_lines, last_text, cores_byte, pages_byte, memory_bytes, is_sized, is_started, first_text, started, steps_in, steps_text, simulated}
 

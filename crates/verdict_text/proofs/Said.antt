@@ -11,7 +11,7 @@ use lib.ListN.{length, take, drop, replicate, length-drop, length-replicate, dro
 use lib.Seq.{take_all, take-take, length-take-le}
 use borrow.Author.Tests.{lt-ltb, le-ltb, eq-eqb, ne_eqb, eqb-true, not-false}
 use Rattle.word.specs.Word.{if◌then◌else◌}
-use Rattle.word.specs.Bytes.{bytes_at, words_in}
+use Rattle.word.specs.Bytes.{words_in}
 use Rattle.word.proofs.Laws.{side}
 use Rattle.word.proofs.Tests.{and_right}
 use Rattle.word.proofs.Bytes.{bytes_take, length_words}

@@ -1,6 +1,6 @@
 use native.Mathlib.Omega.{arith}
 use mathlib.Core.Path.{refl, ap}
-use Prim.Native.Nat.{ℕ, ◌+◌, ◌-◌}
+use Prim.Native.Nat.{ℕ, ◌+◌}
 use borrow.Author.Rules.{rules}
 use Rattle.text.proofs.Texts.{counts}
 use Rattle.simulation.proofs.Taking.{no_lines, none_after, lines_next, after_next, flag_few, lines_all, after_all}
@@ -33,4 +33,14 @@ pub shape_of-out : goal.shape_of-out
 shape_of-out c = c.loop-i.invariant.5.kept
 
 pub returns : goal.returns
-returns c =  record { put = (lines_all _ _ c.loop-i.invariant.2 c.loop-i-test.false _ _ _ c.loop-i.invariant.5, counts _ _ (omega (arith, c.loop-i.invariant.3, c.loop-i.invariant.2, c.loop-i.invariant.5.kept, c.requires.0, c.requires.1))); accepted_after = (after_all _ _ c.loop-i.invariant.2 c.loop-i-test.false _ _ c.loop-i.invariant.6, (refl, refl, omega (arith, c.loop-i.invariant.4, c.loop-i.invariant.2))); steps_value =  }
+returns c =
+    let h = c.loop-i.invariant in
+    let ended = c.loop-i-test.false in
+    record {
+      put = (
+        lines_all _ _ h.2 ended _ _ _ h.5,
+        counts _ _ (omega (arith, h.3, h.2, h.5.kept, c.requires.0, c.requires.1)),
+      );
+      accepted_after = after_all _ _ h.2 ended _ _ h.6;
+      steps_value = (refl, refl, omega (arith, h.4, h.2));
+    }

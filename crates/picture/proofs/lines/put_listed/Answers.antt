@@ -1,6 +1,5 @@
 use native.Mathlib.Omega.{arith}
 use mathlib.Core.Path.{◌≡◌, ap}
-use Prim.Native.Nat.{◌-◌}
 use Rattle.text.proofs.Texts.{follow, reworded, nothing}
 use Rattle.reach.specs.Reach.{members}
 use Rattle.picture.specs.Lines.{listed}

@@ -1,6 +1,5 @@
 use native.Mathlib.Omega.{arith}
 use mathlib.Core.Path.{◌≡◌, ap}
-use Prim.Native.Nat.{◌-◌}
 use Rattle.text.proofs.Texts.{none, reworded}
 use Rattle.picture.specs.Pages.{mark_row}
 use Rattle.picture.proofs.Marks.{marks_more}

@@ -1,6 +1,6 @@
 use native.Mathlib.Omega.{arith}
 use mathlib.Core.Path.{◌≡◌, ap}
-use Prim.Native.Nat.{◌+◌, ◌-◌, ◌/◌}
+use Prim.Native.Nat.{◌+◌, ◌/◌}
 use lib.ListN.{length}
 use Rattle.text.proofs.Texts.{follow, reworded, nothing}
 use Rattle.picture.specs.Pages as pages

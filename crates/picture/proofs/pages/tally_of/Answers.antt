@@ -1,6 +1,5 @@
 use native.Mathlib.Omega.{arith}
 use mathlib.Core.Path.{ap, ◌∙◌}
-use Prim.Native.Nat.{◌-◌}
 use Rattle.word.specs.Word.{flag}
 use Rattle.picture.proofs.Marks.{count_begins, count_more, count_ends}
 use Rattle.picture.proofs.pages.tally_of.Goals as goal

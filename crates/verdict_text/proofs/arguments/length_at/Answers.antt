@@ -1,5 +1,4 @@
 use native.Mathlib.Omega.{arith}
-use Prim.Native.Nat.{◌-◌}
 use Rattle.verdict_text.proofs.Named.{long_start, long_more, long_zero, long_last}
 use Rattle.verdict_text.proofs.arguments.length_at.Goals as goal
 

@@ -1,7 +1,5 @@
 use native.Mathlib.Omega.{arith}
-use Prim.Native.Nat.{◌-◌}
 use Rattle.text.proofs.Texts.{none, reworded}
-use Rattle.verdict_text.specs.Wrong.{shown}
 use Rattle.verdict_text.proofs.Shown.{shown_more, shown_all}
 use Rattle.verdict_text.proofs.wrong.put_shown.Goals as goal
 
