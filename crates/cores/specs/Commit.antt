@@ -5,7 +5,7 @@ use Rattle.word.specs.Bytes.{put}
 use Rattle.layout.specs.Blocks.{block, with_block}
 use Rattle.isa.specs.Core.{effect}
 use Rattle.isa.specs.Interrupts.{delta_jisr, delta_rfe}
-use Rattle.records.specs.Records.{walks, put_store, take_store, add_walk, drop_walks}
+use Rattle.records.specs.Records.{put_store, take_store, add_walk, drop_walks}
 use Rattle.tables.specs.Views.{registers_of, with_registers}
 use Rattle.apic.specs.LocalApic as apic
 use Rattle.ioapic.specs.IoApic as ioapic
