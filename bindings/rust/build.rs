@@ -1,4 +1,4 @@
-//! Links libmips86.a, which `rt staticlib mips86` writes to target/staticlib at the top of the repository. The
+//! Links libmips86.a, which `tools/build library` writes to target/staticlib at the top of the repository. The
 //! environment variable MIPS86_LIB names another directory that has it.
 
 use std::env;
@@ -14,7 +14,7 @@ fn main() {
     let library = dir.join("libmips86.a");
     println!("cargo:rerun-if-changed={}", library.display());
     if !library.exists() {
-        println!("cargo:warning={} is not there: run `rt staticlib mips86` first", library.display());
+        println!("cargo:warning={} is not there: run `tools/build library` first", library.display());
     }
     println!("cargo:rustc-link-search=native={}", dir.display());
     println!("cargo:rustc-link-lib=static=mips86");
