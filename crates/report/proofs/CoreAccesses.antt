@@ -63,7 +63,6 @@ use Rattle.report.proofs.Cases.{Case}
 use Rattle.report.proofs.Memory.{nothing, reads_bytes, memory_byte_lem, memory_reads, one_missing, put_memory, seen_byte, unseen_byte, seen_there}
 use Rattle.report.proofs.Rules.{store_not, does_same}
 use Rattle.report.proofs.CoreFacts as facts
-use Rattle.report.proofs.CoreRefusals as guards
 use Rattle.report.proofs.CoreRefusals.{K, guarded, allow, is_word, at_address}
 use Rattle.report.proofs.CoreNeeds as needs
 use Rattle.report.proofs.CoreNeeds.{None, HasR, has_fetched, idle₄, idle₅, idle₆}

@@ -15,7 +15,7 @@ use Rattle.decode.specs.Table.{decoded}
 use Rattle.decode.specs.Mnemonics.{load, cas, eret}
 use Rattle.isa.specs.declared.registers.Registers.{Registers}
 use Rattle.isa.specs.Core.{spr_at, d, effect, delta_instr}
-use Rattle.isa.specs.Interrupts.{ovf_of, mca, events_as, jisr, il, lowest_bit, continues, edata_of, ea_at, spr_jisr, delta_jisr, delta_rfe, delta_core}
+use Rattle.isa.specs.Interrupts.{ovf_of, events_as, jisr, il, lowest_bit, continues, edata_of, ea_at, spr_jisr, delta_jisr, delta_rfe, delta_core}
 use Rattle.records.specs.declared.Walk.{Walk}
 use Rattle.records.specs.Records.{among, walks, stores}
 use Rattle.tables.specs.Views.{cores_of, registers_of}

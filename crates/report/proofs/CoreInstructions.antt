@@ -20,7 +20,7 @@ use Rattle.records.specs.declared.Walk.{Walk}
 use Rattle.records.specs.declared.Flush.TheVariants.{All, Incomplete}
 use Rattle.records.specs.Records.{among, walks, stores}
 use Rattle.tlb.specs.Walks.{hit, complete, base_address, ptea, page_key}
-use Rattle.store_buffer.specs.System.{is_port, aligned}
+use Rattle.store_buffer.specs.System.{is_port}
 use Rattle.tables.specs.Views.{cores_of}
 use Rattle.tables.specs.Sound.{sound}
 use Rattle.apic.specs.LocalApic.{event}

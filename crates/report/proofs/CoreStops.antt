@@ -31,7 +31,7 @@ use Rattle.cores.proofs.Decisions.{MayBeDone}
 use Rattle.cores.proofs.Sounds.{tlb_after}
 use Rattle.machine.specs.Actions as machine
 use Rattle.report.specs.Configuration.{Configuration}
-use Rattle.report.specs.Components.{fault, eev, ΣTlb, δtlb}
+use Rattle.report.specs.Components.{fault, ΣTlb, δtlb}
 use Rattle.report.specs.Delta as report
 use Rattle.report.specs.View.{view, processor_of, memory_of}
 use Rattle.report.specs.Needs.{misses}

@@ -31,7 +31,6 @@ use Rattle.tlb.proofs.Fields.{same_walk, ptea_aligned, ptea_low}
 use Rattle.word.proofs.Words.{Words}
 use Rattle.word.proofs.Truth.{and_left, and_right, or_turn, and_turn}
 use Rattle.ioapic.proofs.Blocks.{block_words}
-use Rattle.steps.specs.declared.Answer.TheVariants.{Refused}
 use Rattle.steps.specs.declared.Step.{Step}
 use Rattle.steps.specs.declared.Step.TheVariants as kind
 use Rattle.cores.specs.declared.BufferChange.{BufferChange}
