@@ -15,7 +15,7 @@ use Rattle.tlb.specs.declared.Entry.TheVariants.{Word, Missing}
 use Rattle.tlb.specs.Walks.{walk_level, walk_r, walk_ba, base_address, entry_at, ptea_at, pte_p, pte_r, pte_ba, complete}
 use Rattle.tlb.specs.Steps.{origin_of}
 use Rattle.reach.specs.Lists.{range, select}
-use Rattle.reach.specs.Reach.{any_rights, grants_write, bases_of, store_pages, named_by, named, over, first_pages, second_pages, data_pages, writable_pages, reach}
+use Rattle.reach.specs.Reach.{any_rights, grants_write, bases_of, store_pages, named_by, named, over, first_pages, second_pages, data_pages, writable_pages}
 use Rattle.reach.proofs.Lists.{flat_map_map, flat_map_ext}
 use Rattle.ways.specs.declared.Named.{Named}
 use Rattle.ways.specs.declared.Root.TheVariants.{AtOrigin, AtWalk, AtStore}

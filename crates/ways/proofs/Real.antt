@@ -14,12 +14,12 @@ use Rattle.tlb.specs.declared.Entry.{Entry}
 use Rattle.tlb.specs.declared.Entry.TheVariants.{Word, Missing}
 use Rattle.tlb.specs.Walks.{pte_p, pte_r, pte_ba, entry_at, ptea_at}
 use Rattle.reach.specs.Reach.{grants_write}
-use Rattle.reach.proofs.Lists.{Each, In, in_here, in_there, each_append, each_flat_map, flat_map_ext, flat_map_each, if_both}
+use Rattle.reach.proofs.Lists.{Each, In, in_here, in_there, each_append, flat_map_ext, flat_map_each, if_both}
 use Rattle.ways.specs.declared.Named.{Named}
 use Rattle.ways.specs.declared.Root.{Root}
 use Rattle.ways.specs.declared.Root.TheVariants.{AtWalk, AtStore}
 use Rattle.ways.specs.declared.Way.{Way}
-use Rattle.ways.specs.Ways.{Real, naming, root_named, is_root, roots, entry_named, next_named, entries_of, entry_place, named_at, follow, followed, root_way, further, next_ways, onward, all_from, core_ways, ways}
+use Rattle.ways.specs.Ways.{Real, naming, root_named, is_root, roots, entry_named, next_named, entries_of, entry_place, named_at, follow, root_way, further, next_ways, onward, all_from, core_ways, ways}
 use Rattle.ways.proofs.Lists.{flat_flat, each_range, each_map, each_weak, each_through}
 
 -- ---- one entry more

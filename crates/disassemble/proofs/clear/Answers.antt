@@ -1,4 +1,3 @@
-use Prim.Native.Nat.{◌-◌}
 use native.Mathlib.Omega.{arith}
 use Rattle.disassemble.proofs.Shown.{zero_none, zero_more, zero_end}
 use Rattle.disassemble.proofs.clear.Goals as goal

@@ -1,4 +1,3 @@
-use Prim.Native.Nat.{◌-◌}
 use native.Mathlib.Omega.{arith}
 use Rattle.text.proofs.Texts.{none, whole}
 use Rattle.disassemble.proofs.Shown.{letters_end, letters_zero, letters_next, letter_more}

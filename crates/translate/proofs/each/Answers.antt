@@ -1,5 +1,4 @@
 use mathlib.Core.Path.{sym, ◌∙◌}
-use Prim.Native.Nat.{◌-◌}
 use native.Mathlib.Omega.{arith}
 use Rattle.translate.proofs.Filling.{walk_for_lem, first_level, fill_start, fill_next, fill_answers, fill_reads}
 use Rattle.translate.proofs.each.Goals as goal

@@ -1,6 +1,5 @@
 -- `translate::lead` meets its contract. The invariant: what is left of the walk gives the whole (Leading).
 -- Assumes nothing.
-use Prim.Native.Nat.{◌-◌}
 use Rattle.translate.proofs.Leading.{Leading}
 use Rattle.translate.proofs.lead.Given as goal
 

@@ -1,6 +1,5 @@
 use mathlib.Core.Path.{sym, ap, ◌∙◌}
 use mathlib.Core.Bool.{not}
-use Prim.Native.Nat.{◌-◌}
 use Rattle.reasons.proofs.Reasons.{after_found, after_next, after_end}
 use Rattle.reasons.proofs.judge.first_after.Goals as goal
 

@@ -1,7 +1,7 @@
 -- `reasons::judge::mark_faults` meets its contract. The invariant: from page i on the pages at fault are marked, and none is lower than low.
 -- Assumes nothing.
 use mathlib.Core.Path.{◌≡◌}
-use Prim.Native.Nat.{◌-◌, ◌≤◌}
+use Prim.Native.Nat.{◌≤◌}
 use lib.ListN.{length}
 use Rattle.reasons.proofs.Reasons.{From}
 use Rattle.reasons.proofs.judge.mark_faults.Given as goal

@@ -1,6 +1,5 @@
 use mathlib.Core.Path.{ap}
 use mathlib.Core.Bool.{not}
-use Prim.Native.Nat.{◌-◌}
 use native.Mathlib.Omega.{arith}
 use Rattle.reasons.proofs.Reasons.{modes_start, modes_next, modes_found, modes_end}
 use Rattle.reasons.proofs.judge.modes.Goals as goal

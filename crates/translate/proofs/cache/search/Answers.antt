@@ -1,4 +1,3 @@
-use Prim.Native.Nat.{◌-◌}
 use native.Mathlib.Omega.{arith}
 use Rattle.translate.proofs.Caching.{places, none_among}
 use Rattle.translate.proofs.cache.search.Goals as goal

@@ -1,5 +1,5 @@
 use mathlib.Core.Path.{◌∙◌, sym, ap}
-use Prim.Native.Nat.{ℕ, ◌-◌, ◌*◌}
+use Prim.Native.Nat.{ℕ, ◌*◌}
 use native.Mathlib.Omega.{arith}
 use Rattle.ways.specs.inner.Search.{wanted, member_ways}
 use Rattle.tables.proofs.Lift.{header}

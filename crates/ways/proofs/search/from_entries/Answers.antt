@@ -1,5 +1,4 @@
 use mathlib.Core.Path.{◌∙◌}
-use Prim.Native.Nat.{◌-◌}
 use native.Mathlib.Omega.{arith}
 use Rattle.ways.specs.inner.Search.{wanted}
 use Rattle.ways.proofs.Searches.{entries_start, entries_next, entries_end}

@@ -1,6 +1,4 @@
 use mathlib.Core.Path.{◌∙◌}
-use mathlib.Core.Logic.{⊎_elim}
-use Prim.Native.Nat.{◌-◌}
 use native.Mathlib.Omega.{arith}
 use Rattle.ways.specs.inner.Search.{wanted}
 use Rattle.ways.proofs.Searches.{hit_taken, hit_left, scan_start, scan_next, scan_end}
