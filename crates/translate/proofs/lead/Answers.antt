@@ -13,26 +13,8 @@ loop-left-init c = lead_start c.requires.cached c.requires.n_bound.1
 pub entry-got-requires : goal.entry-got-requires
 entry-got-requires c = let l = c.loop-left in record { cached = l.invariant.kept; n_bound = omega (arith, l.invariant.room, c.requires.n_bound.0) }
 
-pub shape_of-keys-in_default : goal.shape_of-keys-in_default
-shape_of-keys-in_default c = c.entry-got.ensures.asked.kept.keys_long ∙ sym c.requires.cached.keys_long
-
-pub shape_of-words-in_default : goal.shape_of-words-in_default
-shape_of-words-in_default c = c.entry-got.ensures.asked.kept.words_long ∙ sym c.requires.cached.words_long
-
-pub shape_of-slots-in_default : goal.shape_of-slots-in_default
-shape_of-slots-in_default c = c.entry-got.ensures.asked.kept.slots_long ∙ sym c.requires.cached.slots_long
-
 pub returns-in_default : goal.returns-in_default
 returns-in_default c = let l = c.loop-left in let g = c.entry-got.ensures in let q = c.ptea.ensures in let h = at_entry _ _ _ q g.result_value c.in_default.is in record { to_value = lead_beyond l.left (l.left - 1) (omega arith) l.invariant h; asked = asked_to_beyond l.left (l.left - 1) (omega arith) l.invariant (at_asked _ _ _ q g.asked) h }
-
-pub shape_of-keys-then-not-present : goal.shape_of-keys-then-not-present
-shape_of-keys-then-not-present c = c.entry-got.ensures.asked.kept.keys_long ∙ sym c.requires.cached.keys_long
-
-pub shape_of-words-then-not-present : goal.shape_of-words-then-not-present
-shape_of-words-then-not-present c = c.entry-got.ensures.asked.kept.words_long ∙ sym c.requires.cached.words_long
-
-pub shape_of-slots-then-not-present : goal.shape_of-slots-then-not-present
-shape_of-slots-then-not-present c = c.entry-got.ensures.asked.kept.slots_long ∙ sym c.requires.cached.slots_long
 
 pub returns-then-not-present : goal.returns-then-not-present
 returns-then-not-present c = let l = c.loop-left in let g = c.entry-got.ensures in let q = c.ptea.ensures in let h = at_entry _ _ _ q g.result_value c.in-Word.is in let p = sym c.present.ensures ∙ c.if-not-present.true in record { to_value = lead_absent l.left (l.left - 1) (omega arith) l.invariant _ h p; asked = asked_to_absent l.left (l.left - 1) (omega arith) l.invariant (at_asked _ _ _ q g.asked) _ h p }
@@ -42,15 +24,6 @@ wext-w-requires c = let l = c.loop-left in ne_eqb (walk_level l.w) 0 (λ z. omeg
 
 pub loop-left-preserved : goal.loop-left-preserved
 loop-left-preserved c = let l = c.loop-left in let g = c.entry-got.ensures in let q = c.ptea.ensures in let h = at_entry _ _ _ q g.result_value c.in-Word.is in let p = sym c.present.ensures ∙ c.if-not-present.false in again c.wext-w.ensures (lead_next l.left (l.left - 1) (omega arith) l.invariant (at_asked _ _ _ q g.asked) _ h p)
-
-pub shape_of-keys : goal.shape_of-keys
-shape_of-keys c = c.loop-left.invariant.kept.keys_long ∙ sym c.requires.cached.keys_long
-
-pub shape_of-words : goal.shape_of-words
-shape_of-words c = c.loop-left.invariant.kept.words_long ∙ sym c.requires.cached.words_long
-
-pub shape_of-slots : goal.shape_of-slots
-shape_of-slots c = c.loop-left.invariant.kept.slots_long ∙ sym c.requires.cached.slots_long
 
 pub returns : goal.returns
 returns c = let l = c.loop-left in record { to_value = ap (λ (r : ℕ). Mapped l.w.second r) c.rights.ensures ∙ lead_mapped l.left (omega arith) l.invariant; asked = lead_end l.left (omega arith) l.invariant }
