@@ -1,7 +1,7 @@
 -- A step writes only where its side may, and its block stays good unless it takes an interrupt.
 -- Assumes nothing.
 use mathlib.Core.Path.{◌≡◌, refl, sym, ap, subst, ◌∙◌}
-use mathlib.Core.Logic.{◌⊎◌, ⊎_elim, ◌≢◌}
+use mathlib.Core.Logic.{⊎_elim}
 use mathlib.Core.Bool.{Bool, true, false, ◌&&◌, ◌||◌, not, false≢true, true≢false}
 use mathlib.Core.List.{List, [], ◌∷◌}
 use Prim.Native.Nat.{ℕ, zero, suc, ◌+◌, ◌-◌, ◌*◌, ◌/◌, ◌%◌, ◌^◌, ◌<◌, ◌≤◌}
@@ -45,7 +45,7 @@ use Rattle.store_buffer.specs.declared.Loaded.TheVariants as load-variants
 use Rattle.store_buffer.specs.declared.Place.TheVariants as to
 use Rattle.store_buffer.specs.Leaving.{place_of}
 use Rattle.store_buffer.specs.System.{is_port, memory_byte, reads, loaded}
-use Rattle.steps.specs.declared.Answer.TheVariants.{Done, Refused}
+use Rattle.steps.specs.declared.Answer.TheVariants.{Done}
 use Rattle.steps.specs.declared.Step.{Step}
 use Rattle.cores.specs.Guards.{test}
 use Rattle.cores.specs.Core.{View, view_of, is_event, causes, suppressed, stopped, causes_without, faulted, fault_of, physical, on_load, on_store, on_cas, exchanged, stored_from, performed, dropped_by, is_access, avoids_ports, has_hazard, on_address, on_data, on_access, on_instruction, finds_buffer, data_request_of, fetch_request_of, on_word, on_fetch_address, on_fetch, fetch, judged, core_plan, is_free, without_access, ports_beside}
