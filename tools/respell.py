@@ -58,7 +58,8 @@ table = {n: TYPES.get(n) or SPECIAL.get(n) or snake(n) for n in to_turn}
 groups = collections.defaultdict(set)
 for n in own: groups[table.get(n, n)].add(n)
 for new, olds in groups.items():
-    if len(olds) < 2: continue
+    # a constructor is always named with its type, so it may have a definition's name
+    if len(olds) < 2 or new == 'no_byte': continue
     meet = any(len(olds & ws) > 1 for ws in where.values())
     if not meet: continue
     stays = [n for n in olds if n in in_specs and '-' not in n] or [n for n in olds if '-' not in n]
@@ -71,10 +72,12 @@ print(f'{len(table)} names are respelled')
 for n in sorted(table):
     if table[n].endswith('_lem'): print('  _lem', n, '->', table[n])
 
-def turn(s, skip=frozenset(), dashes=True):
+def turn(s, skip=frozenset(), dashes=True, code=False):
     def sub(m):
         w = m.group(0)
         if w in skip or w not in table: return w
+        # a function of src/ keeps its name
+        if code and '-' not in w and table[w].endswith('_lem'): return w
         if not dashes and '-' in w: return w
         if table[w].endswith('_lem') and '-' not in w and s[m.start() - 1:m.start()] == '.': return w
         return table[w]
@@ -98,7 +101,7 @@ AUTO = '#![tactic(auto)]'
 for f in files('/crates/*/src/**/*.rt'):
     s = open(f, encoding='utf-8').read()
     t = s.replace('#[derive(Drop)]', '#[derive(Clone, Copy)]')
-    t = ''.join(turn(p, dashes=not p.startswith('//')) for p in re.split(r'(//[^\n]*)', t))
+    t = ''.join(turn(p, dashes=not p.startswith('//'), code=True) for p in re.split(r'(//[^\n]*)', t))
     if f.endswith(('/src/lib.rt', '/src/main.rt')) and AUTO not in t:
         lines = t.split('\n')
         i = 0
@@ -112,7 +115,7 @@ for f in files('/crates/*/must-fail/*.edit'):
     out, kind = [], ''
     for l in s.split('\n'):
         if l.startswith('file:'): kind = l
-        if l.startswith(('old:', 'new:')): l = turn(l, dashes=kind.endswith('.antt'))
+        if l.startswith(('old:', 'new:')): l = turn(l, dashes=kind.endswith('.antt'), code=kind.endswith('.rt'))
         out.append(l)
     t = '\n'.join(out)
     if t != s: open(f, 'w', encoding='utf-8').write(t)

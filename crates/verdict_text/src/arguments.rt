@@ -11,7 +11,7 @@ pub struct Request {
 }
 
 // The core that the argument at a place names, or 4.
-pub fn core_at_lem(a: &[u8], at: usize) -> u32
+pub fn core_at(a: &[u8], at: usize) -> u32
     requires { at < length a.now }
     ensures { (result ≡ named_core (first (drop at a.now))) × (result ≤ 4) }
 {
@@ -56,7 +56,7 @@ pub fn ask(a: &[u8]) -> Request
     let mut group: u32 = 0;
     let mut at: usize = 0;
     while at < a.len() {
-        let k = core_at_lem(a, at);
+        let k = core_at(a, at);
         if 3 < k {
             return Request { group, at };
         }

@@ -1,7 +1,7 @@
 use native.Mathlib.Omega.{arith}
 use mathlib.Core.Path.{sym, ◌∙◌}
 use Rattle.verdict_text.proofs.Named.{core_low, core_high, core_long, core_ended, core_last}
-use Rattle.verdict_text.proofs.arguments.core_at_lem.Goals as goal
+use Rattle.verdict_text.proofs.arguments.core_at.Goals as goal
 
 pub returns-then-byte-lt48 : goal.returns-then-byte-lt48
 returns-then-byte-lt48 c = (sym (core_low _ _ c.requires c.if-byte-lt48.true), omega arith)
