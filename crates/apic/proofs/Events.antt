@@ -1,12 +1,12 @@
 -- The external event (definition 66) by the lowest vectors of IRR and ISR.
 -- Assumes nothing.
+use Rattle.std.specs.Prelude.{if◌then◌else◌}
 use mathlib.Core.Path.{◌≡◌, refl, sym}
 use mathlib.Core.Bool.{Bool, true, false}
 use mathlib.Core.List.{List}
 use mathlib.Core.Logic.{⊎_elim}
 use Prim.Native.Nat.{ℕ, suc, ◌≤◌, ◌<◌}
 use native.Mathlib.Omega.{arith}
-use Rattle.word.specs.Word.{if◌then◌else◌}
 use Rattle.word.proofs.Laws.{side}
 use Rattle.word.proofs.Truth.{clash}
 use Rattle.vector_register.specs.declared.Found.TheVariants.{Vector, None}

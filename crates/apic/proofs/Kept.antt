@@ -1,5 +1,6 @@
 -- What a step leaves: the words outside its own as they were, and words, flags and the SIPI vector in their ranges.
 -- Assumes nothing.
+use Rattle.std.specs.Prelude.{if◌then◌else◌}
 use mathlib.Core.Path.{◌≡◌, refl, sym, ◌∙◌, subst}
 use mathlib.Core.Bool.{Bool, true, false}
 use mathlib.Core.List.{List}
@@ -10,7 +11,7 @@ use lib.ListN.{get_or, set, length, length-set}
 use lib.Seq.{get_or-set_other}
 use lib.Dec.{eqb}
 use borrow.Author.Tests.{ltb-true}
-use Rattle.word.specs.Word.{if◌then◌else◌, sll, with_bit}
+use Rattle.word.specs.Word.{sll, with_bit}
 use Rattle.word.proofs.Words.{Words, set_case, set_below}
 use Rattle.layout.specs.Layout.{running, sipirr, sipivect, initrr, eoipending}
 use Rattle.vector_register.specs.declared.Found.{Found}

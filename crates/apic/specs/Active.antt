@@ -1,7 +1,7 @@
 -- The active steps of a local APIC (11.3), as far as they lie in one core's block.
 -- Assumes nothing.
-use Rattle.std.specs.Prelude.{Bool, true, not, ◌&&◌, List, ℕ, ◌+◌, ◌/◌, ◌%◌, ◌^◌, get_or, set, eqb}
-use Rattle.word.specs.Word.{if◌then◌else◌, sll, bit, with_bit}
+use Rattle.std.specs.Prelude.{if◌then◌else◌, Bool, true, not, ◌&&◌, List, ℕ, ◌+◌, ◌/◌, ◌%◌, ◌^◌, get_or, set, eqb}
+use Rattle.word.specs.Word.{sll, bit, with_bit}
 use Rattle.layout.specs.Layout.{spr, pc, running, eoipending, sipirr, sipivect, initrr, eca, mode}
 use Rattle.vector_register.specs.declared.Found.{Found}
 use Rattle.apic.specs.declared.local.Kind.{Kind}

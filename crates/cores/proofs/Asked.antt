@@ -1,10 +1,10 @@
 -- Laws of the scheme of refusals: what a decision needs of what follows a guard, it needs only where the guard does not fail.
 -- Assumes nothing.
+use Rattle.std.specs.Prelude.{if◌then◌else◌}
 use mathlib.Core.Path.{◌≡◌, refl, sym, ap, ap₂, ◌∙◌}
 use mathlib.Core.Bool.{Bool, true, false, ◌||◌, false≢true}
 use mathlib.Core.List.{List, [], ◌∷◌, ◌++◌}
 use Prim.Native.Nat.{ℕ}
-use Rattle.word.specs.Word.{if◌then◌else◌}
 use Rattle.word.proofs.Truth.{tested, clash}
 use Rattle.cores.specs.Guards.{Guard, test, is_failure, is_undecided, any_of, Judged, yield, ask, settle}
 

@@ -1,5 +1,6 @@
 -- What the parts of a plan leave of a block: its length, its stores and its walks.
 -- Assumes nothing.
+use Rattle.std.specs.Prelude.{if◌then◌else◌}
 use mathlib.Core.Path.{◌≡◌, refl, ◌∙◌}
 use mathlib.Core.Logic.{inl, inr}
 use mathlib.Core.Bool.{Bool, true, false}
@@ -10,7 +11,6 @@ use lib.Dec.{ltb, eqb}
 use native.Mathlib.Omega.{arith}
 use borrow.Author.Tests.{ltb-true}
 use Rattle.word.proofs.Truth.{or_other}
-use Rattle.word.specs.Word.{if◌then◌else◌}
 use Rattle.isa.specs.declared.registers.Registers.{Registers}
 use Rattle.isa.specs.Core.{gpr_at, put_at, effect, gprw, cad, gprdin, delta_instr}
 use Rattle.isa.specs.Interrupts.{delta_jisr, delta_rfe, continues, il}

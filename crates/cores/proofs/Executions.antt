@@ -1,5 +1,6 @@
 -- Every plan that a core's own step decides on a sound block may be done.
 -- Assumes nothing.
+use Rattle.std.specs.Prelude.{if◌then◌else◌}
 use mathlib.Core.Path.{◌≡◌, refl, sym, ◌∙◌, ap, subst}
 use mathlib.Core.Bool.{Bool, true, false, not, ◌||◌}
 use mathlib.Core.List.{List}
@@ -8,7 +9,6 @@ use lib.ListN.{length, get_or}
 use lib.Dec.{eqb, leb, ltb}
 use native.Mathlib.Omega.{arith}
 use borrow.Author.Tests.{lt-ltb, leb-false, ltb-true, eqb-true}
-use Rattle.word.specs.Word.{if◌then◌else◌}
 use Rattle.word.proofs.Words.{if_both}
 use Rattle.word.proofs.Truth.{and_left, and_right, and_both}
 use Rattle.layout.specs.Layout.{sr}

@@ -1,6 +1,7 @@
 -- What a plan changes when it is done: the block of its core, words 4 to 29 of the header, and one aligned run of memory bytes. Nothing else, so
 -- sound tables stay sound.
 -- Assumes nothing.
+use Rattle.std.specs.Prelude.{if◌then◌else◌}
 use mathlib.Core.Path.{◌≡◌, refl, ◌∙◌, ap}
 use mathlib.Core.Logic.{◌≢◌, ◌⊎◌, inl, inr, ⊎_elim}
 use mathlib.Core.Bool.{Bool, true, false}
@@ -11,7 +12,6 @@ use lib.Seq.{get_or-set_other}
 use lib.Dec.{eqb, ltb}
 use native.Mathlib.Omega.{arith}
 use borrow.Author.Tests.{ltb-true, leb-true, eqb-true}
-use Rattle.word.specs.Word.{if◌then◌else◌}
 use Rattle.word.specs.Bytes.{put}
 use Rattle.word.proofs.Bytes.{Bytes, put_length, put_bytes}
 use Rattle.word.proofs.Tests.{true_false}

@@ -1,5 +1,6 @@
 -- A plan that is done on a sound block leaves a sound block, and what the block shows then.
 -- Assumes nothing.
+use Rattle.std.specs.Prelude.{if◌then◌else◌}
 use mathlib.Core.Path.{◌≡◌, refl, ◌∙◌, ap}
 use mathlib.Core.Logic.{◌⊎◌, inl, inr, ⊎_elim}
 use mathlib.Core.Bool.{Bool, true, false, ◌&&◌}
@@ -10,7 +11,6 @@ use lib.Seq.{get_or-set_other}
 use lib.Dec.{eqb}
 use native.Mathlib.Omega.{arith}
 use borrow.Author.Tests.{ltb-true}
-use Rattle.word.specs.Word.{if◌then◌else◌}
 use Rattle.word.proofs.Truth.{and_left, and_right, or_other}
 use Rattle.layout.specs.Layout as at
 use Rattle.decode.specs.declared.Instruction.{Instruction}

@@ -1,7 +1,6 @@
 -- The step of the store buffer as a plan (11.3): the oldest store goes to a port or to memory.
 -- Assumes nothing.
-use Rattle.std.specs.Prelude.{List, ℕ}
-use Rattle.word.specs.Word.{if◌then◌else◌}
+use Rattle.std.specs.Prelude.{if◌then◌else◌, List, ℕ}
 use Rattle.records.specs.declared.Store.{Store}
 use Rattle.store_buffer.specs.declared.Oldest.{Oldest}
 use Rattle.store_buffer.specs.declared.Oldest.TheVariants.{Empty, Leaves}

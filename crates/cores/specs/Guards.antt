@@ -1,7 +1,6 @@
 -- The scheme of refusals 6 and 7: a guard that fails gives 6, wherever it stands; if none fails and one cannot be decided, 7.
 -- Assumes nothing.
-use Rattle.std.specs.Prelude.{Bool, true, false, ◌||◌, List, [], ◌∷◌, ◌++◌, ℕ}
-use Rattle.word.specs.Word.{if◌then◌else◌}
+use Rattle.std.specs.Prelude.{if◌then◌else◌, Bool, true, false, ◌||◌, List, [], ◌∷◌, ◌++◌, ℕ}
 
 pub data Guard : Type 0 where
   holds : Guard

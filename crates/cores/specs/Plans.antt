@@ -1,7 +1,6 @@
 -- What a step of a core, of its TLB or of its store buffer does: a plan.
 -- Assumes nothing.
-use Rattle.std.specs.Prelude.{ℕ}
-use Rattle.word.specs.Word.{if◌then◌else◌}
+use Rattle.std.specs.Prelude.{if◌then◌else◌, ℕ}
 use Rattle.decode.specs.declared.Instruction.{Instruction}
 use Rattle.decode.specs.Mnemonics.{eret}
 use Rattle.isa.specs.Interrupts.{jisr, il}

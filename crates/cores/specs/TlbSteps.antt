@@ -1,7 +1,6 @@
 -- The TLB's own steps as plans (11.3: tlb-create, tlb-extend, tlb-set-accessed).
 -- Assumes nothing.
-use Rattle.std.specs.Prelude.{Bool, not, ◌&&◌, List, leb, length}
-use Rattle.word.specs.Word.{if◌then◌else◌}
+use Rattle.std.specs.Prelude.{if◌then◌else◌, Bool, not, ◌&&◌, List, leb, length}
 use Rattle.records.specs.declared.Walk.{Walk}
 use Rattle.records.specs.Records.{among}
 use Rattle.tlb.specs.declared.Decision.{Decision}

@@ -1,6 +1,5 @@
 // A core's address through the walk that the step names (5, 11.3).
-ghost use Rattle.std.specs.Prelude.{◌≡◌, true, not, ◌||◌, ◌&&◌, ◌<◌, ◌^◌, ◌+◌, ◌*◌, ◌%◌, length, ltb};
-ghost use Rattle.word.specs.Word.{if◌then◌else◌};
+ghost use Rattle.std.specs.Prelude.{if◌then◌else◌, ◌≡◌, true, not, ◌||◌, ◌&&◌, ◌<◌, ◌^◌, ◌+◌, ◌*◌, ◌%◌, length, ltb};
 ghost use Rattle.records.specs.Records.{linked, walks, among};
 ghost use Rattle.tables.specs.Views.{registers_of};
 ghost use Rattle.tlb.specs.declared.Faulting.TheVariants as verdict;

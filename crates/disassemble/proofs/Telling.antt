@@ -1,6 +1,7 @@
 -- A text tells the row and every field that the row names: it comes apart at its blanks, no two rows have the same
 -- mnemonic, each field that a row names is shown, and each way in which a field is shown tells the field.
 -- Assumes nothing.
+use Rattle.std.specs.Prelude.{if◌then◌else◌}
 use mathlib.Core.Path.{◌≡◌, refl, sym, ap, ◌∙◌}
 use mathlib.Core.Bool.{Bool, true, false, not, ◌&&◌, ◌||◌}
 use mathlib.Core.Logic.{⊎_elim}
@@ -12,7 +13,7 @@ use lib.Dec.{eqb}
 use lib.IntN.{ℤ, pos, negsuc}
 use lib.ListN.{get_or}
 use borrow.Author.Tests.{eqb-true}
-use Rattle.word.specs.Word.{if◌then◌else◌, signed, twoc}
+use Rattle.word.specs.Word.{signed, twoc}
 use Rattle.word.proofs.Tests.{true_false}
 use Rattle.word.proofs.Truth.{and_right as second}
 use Rattle.word.proofs.Laws.{side}

@@ -1,8 +1,8 @@
 -- The text of an instruction word (02): mnemonic and operands as the column 'assembler syntax' of tables 1 to 4 has
 -- them (forms, specs/Syntax).
 -- Assumes nothing.
-use Rattle.std.specs.Prelude.{not, List, [], ◌∷◌, ◌++◌, ℕ, suc, ◌+◌, ◌-◌, eqb, ℤ, pos, negsuc, length, replicate}
-use Rattle.word.specs.Word.{if◌then◌else◌, signed}
+use Rattle.std.specs.Prelude.{if◌then◌else◌, not, List, [], ◌∷◌, ◌++◌, ℕ, suc, ◌+◌, ◌-◌, eqb, ℤ, pos, negsuc, length, replicate}
+use Rattle.word.specs.Word.{signed}
 use Rattle.text.specs.Text.{ascii, decimal}
 use Rattle.decode.specs.Fields.{rs, rt, rd, sa, imm, iindex}
 use Rattle.decode.specs.Table.{decoded}

@@ -1,5 +1,6 @@
 -- What holds of the syntax of every row: each is a test that is computed on all rows.
 -- Assumes nothing.
+use Rattle.std.specs.Prelude.{if◌then◌else◌}
 use mathlib.Core.Path.{◌≡◌, refl, sym, ap, ◌∙◌}
 use mathlib.Core.Bool.{Bool, true, false, ◌&&◌}
 use mathlib.Core.List.{List, [], ◌∷◌, map}
@@ -8,7 +9,6 @@ use native.Mathlib.Omega.{arith}
 use lib.Dec.{T, eqb, leb}
 use lib.ListN.{length}
 use borrow.Author.Tests.{eqb-true, leb-true}
-use Rattle.word.specs.Word.{if◌then◌else◌}
 use Rattle.word.proofs.Tests.{truth, and_left, and_right}
 use Rattle.text.specs.Text.{ascii}
 use Rattle.text.proofs.Decimals.{free}

@@ -1,8 +1,7 @@
 -- The column 'assembler syntax' of tables 1 to 4: the mnemonic and the operands of each row.
 -- Assumes nothing.
-use Rattle.std.specs.Prelude.{List, [], ◌∷◌, eqb}
+use Rattle.std.specs.Prelude.{if◌then◌else◌, List, [], ◌∷◌, eqb}
 use Prim.Native.String.{String}
-use Rattle.word.specs.Word.{if◌then◌else◌}
 use Rattle.decode.specs.declared.Load.TheVariants.{Lb, Lh, Lw, Lbu, Lhu}
 use Rattle.decode.specs.declared.StoreWidth.TheVariants.{Sb, Sh, Sw}
 use Rattle.decode.specs.declared.Immediate.TheVariants.{Addi, Addiu, Slti, Sltiu, Andi, Ori, Xori, Lui}

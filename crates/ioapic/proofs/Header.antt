@@ -1,5 +1,6 @@
 -- What a step of the I/O APIC leaves: every word but its own as it was, and words as words. What an EOI message does, entry by entry.
 -- Assumes nothing.
+use Rattle.std.specs.Prelude.{if◌then◌else◌}
 use mathlib.Core.Path.{◌≡◌, refl, sym, ap, ◌∙◌}
 use mathlib.Core.Bool.{Bool, true, false}
 use mathlib.Core.List.{List}
@@ -10,7 +11,7 @@ use lib.ListN.{get_or, set, length, length-set}
 use lib.Seq.{get_or-set_same, get_or-set_other}
 use lib.Dec.{eqb, ltb}
 use borrow.Author.Tests.{ltb-true}
-use Rattle.word.specs.Word.{if◌then◌else◌, with_bit}
+use Rattle.word.specs.Word.{with_bit}
 use Rattle.word.proofs.Laws.{side}
 use Rattle.word.proofs.Words.{Words, set_below}
 use Rattle.layout.specs.Layout.{ioregsel, iowin, redirect}

@@ -1,5 +1,6 @@
 -- What send_IPI, send_EOI and deliver do to each block and to the header, and what they leave.
 -- Assumes nothing.
+use Rattle.std.specs.Prelude.{if◌then◌else◌}
 use mathlib.Core.Path.{◌≡◌, refl, sym, ap, ◌∙◌, subst}
 use mathlib.Core.Bool.{Bool, true, false}
 use mathlib.Core.List.{List}
@@ -9,7 +10,6 @@ use native.Mathlib.Omega.{arith}
 use lib.ListN.{length, get_or}
 use lib.Dec.{eqb}
 use borrow.Author.Tests.{eqb-true, eqb-false}
-use Rattle.word.specs.Word.{if◌then◌else◌}
 use Rattle.word.proofs.Words.{Words}
 use Rattle.layout.specs.Layout.{eoipending, redirect}
 use Rattle.apic.specs.declared.active.Ipi.{Ipi}

@@ -1,7 +1,6 @@
 -- The active steps of 11.3 that go over the interrupt bus, on the tables of n cores.
 -- Assumes nothing.
-use Rattle.std.specs.Prelude.{List, ℕ, eqb}
-use Rattle.word.specs.Word.{if◌then◌else◌}
+use Rattle.std.specs.Prelude.{if◌then◌else◌, List, ℕ, eqb}
 use Rattle.apic.specs.declared.active.Ipi.{Ipi}
 use Rattle.apic.specs.LocalApic.{id_of, fixed}
 use Rattle.apic.specs.Active.{idle, received_by, eoi_sent}

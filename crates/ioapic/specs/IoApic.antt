@@ -1,7 +1,7 @@
 -- The I/O APIC on the header words of the tables (section 10).
 -- Assumes nothing.
-use Rattle.std.specs.Prelude.{Bool, ◌&&◌, ◌||◌, List, ℕ, zero, suc, ◌+◌, ◌/◌, ◌%◌, ◌^◌, get_or, set, eqb, ltb}
-use Rattle.word.specs.Word.{if◌then◌else◌, bit, with_bit}
+use Rattle.std.specs.Prelude.{if◌then◌else◌, Bool, ◌&&◌, ◌||◌, List, ℕ, zero, suc, ◌+◌, ◌/◌, ◌%◌, ◌^◌, get_or, set, eqb, ltb}
+use Rattle.word.specs.Word.{bit, with_bit}
 use Rattle.layout.specs.Layout.{lines, ioregsel, iowin, redirect}
 
 -- ---- 10.1: the redirect table and its fields

@@ -1,12 +1,13 @@
 -- Predicates on instructions by their numbers: each is tested on every row of the tables.
 -- Assumes nothing.
+use Rattle.std.specs.Prelude.{if◌then◌else◌}
 use mathlib.Core.Path.{◌≡◌, sym, ◌∙◌, refl}
 use mathlib.Core.Bool.{Bool, false, not, ◌&&◌, ◌||◌}
 use Prim.Native.Nat.{ℕ, ◌<◌, ◌+◌, ◌*◌, ◌/◌, ◌%◌, ◌^◌}
 use lib.Dec.{eqb, ltb}
 use native.Mathlib.Omega.{arith}
 use borrow.Author.Tests.{eqb-true, ne_eqb, le-ltb}
-use Rattle.word.specs.Word.{if◌then◌else◌, is_set, flag, sxt}
+use Rattle.word.specs.Word.{is_set, flag, sxt}
 use Rattle.word.proofs.Tests.{and_false, truth}
 use Rattle.decode.specs.declared.System.TheVariants.{Cas}
 use Rattle.decode.specs.declared.Instruction.{Instruction}

@@ -1,5 +1,6 @@
 -- An instruction, an interrupt and a return make words of words.
 -- Assumes nothing.
+use Rattle.std.specs.Prelude.{if◌then◌else◌}
 use mathlib.Core.Bool.{Bool, not, ◌&&◌, ◌||◌}
 use mathlib.Core.List.{List}
 use Prim.Native.Nat.{ℕ, ◌+◌, ◌*◌, ◌/◌, ◌%◌, ◌^◌, ◌≤◌, ◌<◌}
@@ -8,7 +9,7 @@ use native.Mathlib.Omega.{arith}
 use lib.Dec.{eqb}
 use lib.ListN.{set}
 use lib.Pow.{pow_pos}
-use Rattle.word.specs.Word.{if◌then◌else◌, flag, is_set, plus, sxt, sll}
+use Rattle.word.specs.Word.{flag, is_set, plus, sxt, sll}
 use Rattle.word.proofs.Laws.{sxt_lt}
 use Rattle.word.proofs.Words.{if_both, if_lt, set_below}
 use Rattle.layout.specs.Layout as at

@@ -1,5 +1,6 @@
 -- Laws of the report: lines after lines, and what is said of each verdict.
 -- Assumes nothing.
+use Rattle.std.specs.Prelude.{if◌then◌else◌}
 use mathlib.Core.Path.{◌≡◌, refl, sym, ap, ◌∙◌}
 use mathlib.Core.Bool.{Bool, true, false}
 use mathlib.Core.Logic.{◌≢◌}
@@ -8,7 +9,6 @@ use Prim.Native.Nat.{ℕ, suc, ◌+◌, ◌-◌, ◌<◌, ◌≤◌}
 use native.Mathlib.Omega.{arith}
 use lib.ListN.{length}
 use borrow.Author.Tests.{eq-eqb, ne_eqb}
-use Rattle.word.specs.Word.{if◌then◌else◌}
 use Rattle.text.specs.Text.{Put, ascii}
 use Rattle.text.proofs.Texts.{follow, reworded, nothing}
 use Rattle.tables.specs.Views.{cores_of}

@@ -1,7 +1,7 @@
 -- What is said of a group: the report, or the one line of a refusal.
 -- Assumes nothing.
-use Rattle.std.specs.Prelude.{Bool, ◌&&◌, not, List, [], ◌∷◌, ◌++◌, ℕ, eqb}
-use Rattle.word.specs.Word.{if◌then◌else◌, is_set}
+use Rattle.std.specs.Prelude.{if◌then◌else◌, Bool, ◌&&◌, not, List, [], ◌∷◌, ◌++◌, ℕ, eqb}
+use Rattle.word.specs.Word.{is_set}
 use Rattle.layout.specs.Blocks.{block}
 use Rattle.text.specs.Text.{ascii, decimal}
 use Rattle.tables.specs.Views.{cores_of, runs}

@@ -1,5 +1,6 @@
 -- Sound tables stay sound under every step, and keep their length; memory keeps its length; a refusal moves nothing but its count.
 -- Assumes nothing.
+use Rattle.std.specs.Prelude.{if◌then◌else◌}
 use mathlib.Core.Path.{◌≡◌, refl, ◌∙◌, ap, subst}
 use mathlib.Core.Logic.{inl, inr}
 use mathlib.Core.Bool.{Bool, true, false}
@@ -10,7 +11,7 @@ use lib.Seq.{get_or-set_other}
 use lib.Dec.{eqb, ltb}
 use native.Mathlib.Omega.{arith}
 use native.Mathlib.Decide.{ℕ_discrete}
-use Rattle.word.specs.Word.{if◌then◌else◌, with_bit}
+use Rattle.word.specs.Word.{with_bit}
 use Rattle.word.proofs.Bytes.{Bytes}
 use Rattle.word.proofs.Words.{Words}
 use Rattle.layout.specs.Layout as at

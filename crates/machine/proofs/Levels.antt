@@ -1,5 +1,6 @@
 -- What a step of a core, of its TLB or of its store buffer answers: an interrupt's level is 0 to 7, a refusal's number 6 to 10.
 -- Assumes nothing.
+use Rattle.std.specs.Prelude.{if◌then◌else◌}
 use mathlib.Core.Path.{◌≡◌, refl}
 use mathlib.Core.Bool.{Bool, true, false, not, ◌&&◌}
 use mathlib.Core.List.{List}
@@ -8,7 +9,7 @@ use lib.Dec.{eqb, leb, ltb}
 use lib.ListN.{length}
 use native.Mathlib.Omega.{arith}
 use borrow.Author.Tests.{lt-ltb, eqb-false}
-use Rattle.word.specs.Word.{if◌then◌else◌, is_set, flag}
+use Rattle.word.specs.Word.{is_set, flag}
 use Rattle.layout.specs.Layout as layout
 use Rattle.decode.specs.declared.Instruction.{Instruction}
 use Rattle.decode.specs.Table.{decoded}

@@ -4,6 +4,7 @@
 -- header and one aligned run of memory bytes; where it is refused, one count of refusals alone, its core's, or the
 -- header's where the words are not six. (A store to IOREGSEL reads the redirect entry that it selects.)
 -- Assumes nothing.
+use Rattle.std.specs.Prelude.{if◌then◌else◌}
 use mathlib.Core.Path.{◌≡◌, refl, sym, ap, subst, ◌∙◌}
 use mathlib.Core.Logic.{◌⊎◌, inl, ◌≢◌, ⊎_elim}
 use mathlib.Core.Bool.{Bool, true, false, ◌&&◌}
@@ -13,7 +14,6 @@ use native.Mathlib.Omega.{arith}
 use lib.ListN.{length, get_or, set}
 use lib.Dec.{eqb, ltb, leb}
 use borrow.Author.Tests.{eqb-false, leb-true, ltb-true, lt-ltb}
-use Rattle.word.specs.Word.{if◌then◌else◌}
 use Rattle.word.proofs.Bytes.{Bytes}
 use Rattle.word.proofs.Tests.{true_false}
 use Rattle.word.proofs.Truth.{and_left}

@@ -1,11 +1,11 @@
 -- A step by its answer.
 -- Assumes nothing.
+use Rattle.std.specs.Prelude.{if◌then◌else◌}
 use mathlib.Core.Path.{◌≡◌, refl, sym, ◌∙◌, ap}
 use mathlib.Core.Bool.{Bool, true, false}
 use mathlib.Core.List.{List}
 use Prim.Native.Nat.{ℕ, ◌≤◌, ◌<◌}
 use lib.ListN.{length}
-use Rattle.word.specs.Word.{if◌then◌else◌}
 use Rattle.word.proofs.Tests.{true_false}
 use Rattle.tables.specs.Views.{cores_of}
 use Rattle.tables.specs.Sound.{sound}

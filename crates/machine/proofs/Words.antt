@@ -1,5 +1,6 @@
 -- Every step leaves the words of the tables words and the bytes of memory bytes, whatever the tables, the memory and the words of the step are.
 -- Assumes nothing.
+use Rattle.std.specs.Prelude.{if◌then◌else◌}
 use mathlib.Core.Path.{◌≡◌, refl}
 use mathlib.Core.Bool.{Bool, true, false}
 use mathlib.Core.List.{List}
@@ -8,7 +9,7 @@ use lib.ListN.{length, get_or, set}
 use lib.Dec.{ltb}
 use native.Mathlib.Omega.{arith}
 use borrow.Author.Tests.{ltb-true}
-use Rattle.word.specs.Word.{if◌then◌else◌, with_bit}
+use Rattle.word.specs.Word.{with_bit}
 use Rattle.word.proofs.Bytes.{Bytes}
 use Rattle.word.proofs.Words.{Words, set_below}
 use Rattle.layout.specs.Layout as at

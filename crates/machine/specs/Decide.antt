@@ -1,7 +1,6 @@
 -- What a step decides, on sound tables (11.3; 01, 'Step').
 -- Assumes nothing.
-use Rattle.std.specs.Prelude.{Bool, List, ℕ, length}
-use Rattle.word.specs.Word.{if◌then◌else◌}
+use Rattle.std.specs.Prelude.{if◌then◌else◌, Bool, List, ℕ, length}
 use Rattle.layout.specs.Blocks.{block}
 use Rattle.records.specs.Records.{stores, walks}
 use Rattle.tables.specs.Views.{cores_of}

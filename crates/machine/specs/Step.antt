@@ -1,7 +1,6 @@
 -- The operation Step (01): it answers, and all words of the tables and bytes of memory are as they are after it.
 -- Assumes nothing.
-use Rattle.std.specs.Prelude.{Bool, true, false, List, ℕ, ◌+◌, ◌-◌, ◌^◌, ltb, set, length, get_or}
-use Rattle.word.specs.Word.{if◌then◌else◌}
+use Rattle.std.specs.Prelude.{if◌then◌else◌, Bool, true, false, List, ℕ, ◌+◌, ◌-◌, ◌^◌, ltb, set, length, get_or}
 use Rattle.tables.specs.Views.{cores_of}
 use Rattle.tables.specs.Sound.{sound}
 use Rattle.steps.specs.declared.Answer.{Answer}

@@ -1,5 +1,6 @@
 -- The numbers of reach, apart, translate and disassemble fit a word.
 -- Assumes nothing.
+use Rattle.std.specs.Prelude.{if◌then◌else◌}
 use mathlib.Core.Path.{◌≡◌, refl}
 use mathlib.Core.Bool.{Bool, true, false, not}
 use mathlib.Core.List.{List}
@@ -7,7 +8,6 @@ use Prim.Native.Nat.{ℕ, ◌*◌, ◌^◌, ◌<◌}
 use native.Mathlib.Omega.{arith}
 use lib.Dec.{eqb, ltb, leb}
 use lib.ListN.{length}
-use Rattle.word.specs.Word.{if◌then◌else◌}
 use Rattle.tables.specs.Views.{cores_of, pages_of}
 use Rattle.tables.specs.Sound.{sound}
 use Rattle.reach.specs.Reach.{is_group, in_memory, reach, members, reach_on, reached_number}

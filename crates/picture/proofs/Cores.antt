@@ -1,12 +1,13 @@
 -- Laws of the lists of cores.
 -- Assumes nothing.
+use Rattle.std.specs.Prelude.{if◌then◌else◌}
 use mathlib.Core.Path.{◌≡◌, refl, sym, ap, ◌∙◌}
 use mathlib.Core.Bool.{Bool, true, false}
 use mathlib.Core.List.{List, [], ◌∷◌, ◌++◌}
 use Prim.Native.Nat.{ℕ, ◌+◌}
 use native.Mathlib.Numerals.{add-one}
 use lib.ListN.{length, length-append}
-use Rattle.word.specs.Word.{if◌then◌else◌, is_set, flag}
+use Rattle.word.specs.Word.{is_set, flag}
 use Rattle.reach.specs.Lists.{range, select}
 use Rattle.reach.specs.Reach.{members}
 use Rattle.reach.proofs.Lists.{select_append}

@@ -1,5 +1,6 @@
 -- The mark ! is separation's: no page has it exactly where every page may have the bytes that it has in the two maps.
 -- Assumes nothing.
+use Rattle.std.specs.Prelude.{if◌then◌else◌}
 use mathlib.Core.Path.{◌≡◌, refl, sym, ap, ap₂, ◌∙◌}
 use mathlib.Core.Bool.{Bool, true, false, ◌&&◌, ◌||◌, not}
 use mathlib.Core.List.{List, [], ◌∷◌}
@@ -7,7 +8,7 @@ use Prim.Native.Nat.{ℕ, zero, suc, ◌+◌}
 use native.Mathlib.Omega.{arith}
 use lib.Dec.{eqb}
 use lib.ListN.{get_or}
-use Rattle.word.specs.Word.{if◌then◌else◌, is_set}
+use Rattle.word.specs.Word.{is_set}
 use Rattle.records.specs.Records.{all}
 use Rattle.reach.specs.Lists.{range, has}
 use Rattle.reach.proofs.Lists.{has_append, all_append}

@@ -1,7 +1,6 @@
 -- The lines of a report on a group: each side, and what the marks mean.
 -- Assumes nothing.
-use Rattle.std.specs.Prelude.{List, [], ◌∷◌, ◌++◌, ℕ, ◌+◌, eqb, length}
-use Rattle.word.specs.Word.{if◌then◌else◌}
+use Rattle.std.specs.Prelude.{if◌then◌else◌, List, [], ◌∷◌, ◌++◌, ℕ, ◌+◌, eqb, length}
 use Rattle.text.specs.Text.{ascii, decimal}
 use Rattle.picture.specs.Pages.{count_of, is_reached, can_write, is_table}
 

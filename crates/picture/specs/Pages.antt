@@ -1,8 +1,8 @@
 -- What the two sides do with each page, by the bytes of their maps: how many pages, and a picture with one mark a page.
 -- Assumes nothing.
-use Rattle.std.specs.Prelude.{Bool, ◌&&◌, ◌||◌, not, List, [], ◌∷◌, ◌++◌, ℕ, zero, suc, ◌+◌, ◌-◌, ◌*◌, ◌/◌, min, eqb, length, get_or}
+use Rattle.std.specs.Prelude.{if◌then◌else◌, Bool, ◌&&◌, ◌||◌, not, List, [], ◌∷◌, ◌++◌, ℕ, zero, suc, ◌+◌, ◌-◌, ◌*◌, ◌/◌, min, eqb, length, get_or}
 use Prim.Native.Char.{code}
-use Rattle.word.specs.Word.{if◌then◌else◌, is_set, flag}
+use Rattle.word.specs.Word.{is_set, flag}
 use Rattle.text.specs.Text.{ascii, padded}
 
 -- a byte of a map: 2 for a table, 1 for a data page, 4 for a writable page

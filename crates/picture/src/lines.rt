@@ -1,6 +1,6 @@
 // The lines of a report (specs/Lines.antt).
-ghost use Rattle.std.specs.Prelude.{◌≡◌, ◌∷◌, [], ◌+◌, ◌≤◌, ◌<◌, length};
-ghost use Rattle.word.specs.Word.{is_set, if◌then◌else◌};
+ghost use Rattle.std.specs.Prelude.{if◌then◌else◌, ◌≡◌, ◌∷◌, [], ◌+◌, ◌≤◌, ◌<◌, length};
+ghost use Rattle.word.specs.Word.{is_set};
 ghost use Rattle.reach.specs.Reach.{members};
 ghost use Rattle.text.specs.Text.{Put};
 ghost use Rattle.picture.specs.Lines as lines;

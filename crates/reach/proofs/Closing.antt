@@ -1,5 +1,6 @@
 -- The marks tied to specs/Reach.antt: what is marked is what is reached, and what strays is beyond memory.
 -- Assumes nothing.
+use Rattle.std.specs.Prelude.{if◌then◌else◌}
 use mathlib.Core.Path.{◌≡◌, refl, sym, ap, ap₂, ◌∙◌}
 use mathlib.Core.Bool.{Bool, true, false, ◌&&◌, ◌||◌, not}
 use mathlib.Core.List.{List, [], ◌∷◌, ◌++◌, map, flat_map}
@@ -8,7 +9,7 @@ use native.Mathlib.Omega.{arith}
 use native.Mathlib.Decide.{ℕ_discrete, dec_lt}
 use lib.Dec.{eqb, ltb}
 use lib.ListN.{length, get_or, replicate, length-replicate, get_or-replicate, get_or-eq_default}
-use Rattle.word.specs.Word.{if◌then◌else◌, is_set, flag}
+use Rattle.word.specs.Word.{is_set, flag}
 use Rattle.word.proofs.Bytes.{Bytes}
 use Rattle.word.proofs.Truth.{and_left, or_assoc, or_none, or_turn}
 use Rattle.records.proofs.Counts.{either}

@@ -1,7 +1,6 @@
 -- The lines for a reason why a group is not apart.
 -- Assumes nothing.
-use Rattle.std.specs.Prelude.{List, [], ◌++◌, ℕ, zero, suc, ◌+◌, ◌*◌, eqb, get_or}
-use Rattle.word.specs.Word.{if◌then◌else◌}
+use Rattle.std.specs.Prelude.{if◌then◌else◌, List, [], ◌++◌, ℕ, zero, suc, ◌+◌, ◌*◌, eqb, get_or}
 use Rattle.io.specs.Digits.{last_digits}
 use Rattle.text.specs.Text.{ascii, decimal}
 use Rattle.ways.specs.Ways.{entry_place}

@@ -1,5 +1,6 @@
 -- The law of `why`: each answer has its ground, and there is none exactly where the group is apart.
 -- Assumes nothing.
+use Rattle.std.specs.Prelude.{if◌then◌else◌}
 use mathlib.Core.Path.{◌≡◌, refl, sym, ap, ◌∙◌, subst}
 use mathlib.Core.Bool.{Bool, true, false, ◌&&◌, ◌||◌, not, false≢true}
 use mathlib.Core.List.{List, [], ◌∷◌, ◌++◌}
@@ -8,7 +9,7 @@ use native.Mathlib.Omega.{arith}
 use lib.Dec.{eqb, ltb}
 use lib.ListN.{length}
 use borrow.Author.Tests.{not-true, eqb-true}
-use Rattle.word.specs.Word.{if◌then◌else◌, is_set}
+use Rattle.word.specs.Word.{is_set}
 use Rattle.word.proofs.Truth.{and_left, and_right, or_other, tested}
 use Rattle.layout.specs.Blocks.{block}
 use Rattle.tables.specs.Views.{cores_of, pages_of, runs}

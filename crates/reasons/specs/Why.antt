@@ -1,7 +1,7 @@
 -- Why a group is not apart: the first reason in the order of 01's conditions ('Apart'), with the lowest page at fault and a way to it.
 -- Assumes nothing.
-use Rattle.std.specs.Prelude.{Bool, ◌&&◌, ◌||◌, not, List, [], ◌∷◌, ◌++◌, ℕ, zero, suc, ◌+◌, ◌-◌, eqb, ltb, length}
-use Rattle.word.specs.Word.{if◌then◌else◌, is_set, flag}
+use Rattle.std.specs.Prelude.{if◌then◌else◌, Bool, ◌&&◌, ◌||◌, not, List, [], ◌∷◌, ◌++◌, ℕ, zero, suc, ◌+◌, ◌-◌, eqb, ltb, length}
+use Rattle.word.specs.Word.{is_set, flag}
 use Rattle.layout.specs.Blocks.{block}
 use Rattle.tables.specs.Views.{cores_of, pages_of, runs}
 use Rattle.tables.specs.Sound.{sound}

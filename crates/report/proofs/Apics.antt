@@ -1,5 +1,6 @@
 -- The local APIC of a block as the report's, and what each passive step of it does to both.
 -- Assumes nothing.
+use Rattle.std.specs.Prelude.{if◌then◌else◌}
 use mathlib.Core.Path.{◌≡◌, refl, sym, ◌∙◌, ap, ap₂, subst}
 use mathlib.Core.Bool.{Bool, true, false}
 use mathlib.Core.List.{List}
@@ -10,7 +11,7 @@ use lib.ListN.{length, get_or, set, drop, length-set}
 use lib.Seq.{get_or-set_same, get_or-set_other, get_or-take, get_or-drop}
 use native.Mathlib.Omega.{arith}
 use borrow.Author.Tests.{eqb-true, eqb-false, ltb-true, lt-ltb, le-ltb, le-leb, lt-leb}
-use Rattle.word.specs.Word.{if◌then◌else◌, bit, is_set, flag, with_bit}
+use Rattle.word.specs.Word.{bit, is_set, flag, with_bit}
 use Rattle.word.specs.Bytes.{byte}
 use Rattle.word.proofs.Laws.{side}
 use Rattle.layout.specs.Layout as at

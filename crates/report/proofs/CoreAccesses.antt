@@ -1,5 +1,6 @@
 -- An access that takes effect: a load, a store, a cas.
 -- Assumes nothing.
+use Rattle.std.specs.Prelude.{if◌then◌else◌}
 use mathlib.Core.Path.{◌≡◌, refl, sym, ◌∙◌, ap, subst}
 use mathlib.Core.Bool.{Bool, true, false, not, ◌&&◌, ◌||◌}
 use mathlib.Core.List.{List, [], ◌∷◌, ◌++◌}
@@ -9,7 +10,6 @@ use lib.ListN.{length, get_or}
 use native.Mathlib.Omega.{arith}
 use native.Mathlib.Nat.{mod-eq_of_lt}
 use borrow.Author.Tests.{eqb-true, ltb-true, leb-true, leb-false, lt-leb}
-use Rattle.word.specs.Word.{if◌then◌else◌}
 use Rattle.word.proofs.Tests.{true_false}
 use Rattle.word.specs.Bytes.{byte}
 use Rattle.word.proofs.Truth.{or_true, and-true}

@@ -1,5 +1,6 @@
 -- The addresses that a core's step uses have 32 bits, and the word 0 is an instruction that asks for nothing.
 -- Assumes nothing.
+use Rattle.std.specs.Prelude.{if◌then◌else◌}
 use mathlib.Core.Path.{◌≡◌, refl, sym, ◌∙◌}
 use mathlib.Core.Logic.{⊎_elim}
 use mathlib.Core.Bool.{Bool, true, false, not, ◌&&◌, ◌||◌}
@@ -9,7 +10,7 @@ use lib.Dec.{ltb}
 use lib.ListN.{length, get_or}
 use native.Mathlib.Omega.{arith}
 use borrow.Author.Tests.{ltb-true}
-use Rattle.word.specs.Word.{if◌then◌else◌, plus, sxt}
+use Rattle.word.specs.Word.{plus, sxt}
 use Rattle.word.proofs.Laws.{side}
 use Rattle.layout.specs.Blocks.{block}
 use Rattle.layout.proofs.Blocks.{block_at_lem}

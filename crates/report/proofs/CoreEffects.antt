@@ -1,12 +1,13 @@
 -- What a core's step that is accepted changes: the report's next configuration is the one after the plan.
 -- Assumes nothing.
+use Rattle.std.specs.Prelude.{if◌then◌else◌}
 use mathlib.Core.Path.{◌≡◌, refl, sym, ◌∙◌, ap, subst}
 use mathlib.Core.Bool.{Bool, true, false, not, ◌&&◌, ◌||◌}
 use mathlib.Core.List.{List}
 use Prim.Native.Nat.{ℕ, ◌+◌, ◌*◌, ◌^◌, ◌<◌}
 use lib.Dec.{T, eqb}
 use lib.ListN.{length}
-use Rattle.word.specs.Word.{if◌then◌else◌, is_set, flag}
+use Rattle.word.specs.Word.{is_set, flag}
 use Rattle.word.proofs.Tests.{true_false, truth}
 use Rattle.layout.specs.Layout as at
 use Rattle.layout.specs.Blocks.{block}

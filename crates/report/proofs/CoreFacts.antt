@@ -1,5 +1,6 @@
 -- What the report's core step consults, on the configuration of tables and memory: whatever is beyond memory, as the machine finds it.
 -- Assumes nothing.
+use Rattle.std.specs.Prelude.{if◌then◌else◌}
 use mathlib.Core.Path.{◌≡◌, refl, sym, ◌∙◌, ap}
 use mathlib.Core.Bool.{Bool, true, false, not, ◌&&◌, ◌||◌}
 use mathlib.Core.List.{List}
@@ -7,7 +8,6 @@ use Prim.Native.Nat.{ℕ, zero, suc, ◌+◌, ◌%◌, ◌<◌, ◌≤◌}
 use lib.Dec.{eqb}
 use lib.ListN.{length}
 use borrow.Author.Tests.{lt-ltb}
-use Rattle.word.specs.Word.{if◌then◌else◌}
 use Rattle.word.proofs.Tests.{true_false, and_false}
 use Rattle.layout.specs.Blocks.{block}
 use Rattle.decode.specs.declared.Instruction.{Instruction}

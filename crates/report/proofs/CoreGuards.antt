@@ -1,11 +1,11 @@
 -- The guards of a core's step in the report (11.3), by what was fetched: when all hold, and when one fails.
 -- Assumes nothing.
+use Rattle.std.specs.Prelude.{if◌then◌else◌}
 use mathlib.Core.Path.{◌≡◌, refl, sym, ◌∙◌, ap}
 use mathlib.Core.Bool.{Bool, true, false, not, ◌&&◌, ◌||◌}
 use Prim.Native.Nat.{ℕ}
 use lib.Dec.{eqb}
 use lib.ListN.{length}
-use Rattle.word.specs.Word.{if◌then◌else◌}
 use Rattle.word.proofs.Tests.{true_false, and_false}
 use Rattle.word.proofs.Truth.{and_both, and_none}
 use Rattle.decode.specs.declared.Instruction.{Instruction}

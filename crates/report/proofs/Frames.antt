@@ -1,5 +1,6 @@
 -- The view of tables after a step: of a core's block, of the header, and of a plan that is done.
 -- Assumes nothing.
+use Rattle.std.specs.Prelude.{if◌then◌else◌}
 use mathlib.Core.Path.{◌≡◌, refl, sym, ◌∙◌, ap, subst}
 use mathlib.Core.Bool.{Bool, true, false}
 use mathlib.Core.List.{List}
@@ -10,7 +11,7 @@ use lib.ListN.{length, get_or, set, drop, length-set}
 use lib.Seq.{get_or-set_same, get_or-set_other, get_or-take, get_or-drop}
 use native.Mathlib.Omega.{arith}
 use borrow.Author.Tests.{ltb-true, ltb-false, eqb-true, eqb-false}
-use Rattle.word.specs.Word.{if◌then◌else◌, is_set}
+use Rattle.word.specs.Word.{is_set}
 use Rattle.word.proofs.Tests.{or_false}
 use Rattle.word.proofs.Truth.{and_left, and_right, and_both, or_other}
 use Rattle.layout.specs.Layout as at

@@ -1,5 +1,6 @@
 -- Demand 2 and its exception: what is claimed is δ by the trade's rule, so that each case of a step gives its ground, kind by kind; and what that says of a step that δ allows.
 -- Assumes nothing.
+use Rattle.std.specs.Prelude.{if◌then◌else◌}
 use mathlib.Core.Path.{◌≡◌, refl, ap, sym, ◌∙◌, subst}
 use mathlib.Core.Bool.{true, Bool, false, ◌&&◌, ◌||◌}
 use mathlib.Core.List.{List, [], ◌∷◌, ◌++◌}
@@ -9,7 +10,6 @@ use lib.Dec.{ltb}
 use lib.ListN.{length, length-append}
 use borrow.Author.Tests.{ltb-true, eq-eqb}
 use Rattle.word.proofs.Truth.{and_left, and_right}
-use Rattle.word.specs.Word.{if◌then◌else◌}
 use Rattle.layout.specs.Blocks.{block}
 use Rattle.decode.specs.Mnemonics.{store, load, cas, flush, invlpg, eret}
 use Rattle.decode.specs.declared.Instruction.{Instruction}

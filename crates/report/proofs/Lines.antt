@@ -1,5 +1,6 @@
 -- Demand 2 for the steps on a line: ioapic-sample, ioapic-deliver and set line.
 -- Assumes nothing.
+use Rattle.std.specs.Prelude.{if◌then◌else◌}
 use mathlib.Core.Path.{◌≡◌, refl, sym, ◌∙◌, ap, ap₂, subst}
 use mathlib.Core.Bool.{Bool, true, false, not, ◌&&◌}
 use mathlib.Core.List.{List}
@@ -11,7 +12,7 @@ use lib.Seq.{get_or-set_same, get_or-set_other}
 use native.Mathlib.Nat.{div-div-eq-div-mul}
 use native.Mathlib.Omega.{arith}
 use borrow.Author.Tests.{lt-ltb}
-use Rattle.word.specs.Word.{if◌then◌else◌, bit, is_set, field, with_bit}
+use Rattle.word.specs.Word.{bit, is_set, field, with_bit}
 use Rattle.word.specs.Bytes.{byte}
 use Rattle.layout.specs.Blocks.{block}
 use Rattle.layout.proofs.Blocks.{set_block}

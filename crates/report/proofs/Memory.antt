@@ -1,5 +1,6 @@
 -- Memory as the report has it, total, against the bytes that the machine has: reads, writes, entries and faults.
 -- Assumes nothing.
+use Rattle.std.specs.Prelude.{if◌then◌else◌}
 use mathlib.Core.Path.{◌≡◌, refl, sym, ◌∙◌, ap}
 use mathlib.Core.Logic.{⊎_elim}
 use mathlib.Core.Bool.{Bool, true, false, not, ◌&&◌, ◌||◌}
@@ -11,7 +12,7 @@ use lib.ListN.{length, get_or, set, drop, length-set}
 use lib.Seq.{get_or-set_same, get_or-set_other, get_or-take, get_or-drop}
 use lib.Dec.{ltb, leb}
 use borrow.Author.Tests.{lt-ltb, le-ltb, le-leb, lt-leb, ltb-true, leb-true, leb-false}
-use Rattle.word.specs.Word.{if◌then◌else◌, plus}
+use Rattle.word.specs.Word.{plus}
 use Rattle.word.specs.Bytes.{byte, bytes_at, put}
 use Rattle.word.proofs.Bytes.{put_length}
 use Rattle.word.proofs.Laws.{side}

@@ -1,6 +1,7 @@
 -- Demand 1: step answers what 01 lists, 4 on tables that are not sound and on no others; a refusal leaves memory and every word of the tables but its
 -- count; words stay words, bytes bytes, and sound tables sound.
 -- Assumes nothing.
+use Rattle.std.specs.Prelude.{if◌then◌else◌}
 use mathlib.Core.Path.{◌≡◌, refl, sym, ◌∙◌, ap}
 use mathlib.Core.Bool.{Bool, true, false}
 use mathlib.Core.List.{List}
@@ -10,7 +11,6 @@ use lib.ListN.{length, get_or, set}
 use lib.Seq.{get_or-set_same}
 use native.Mathlib.Omega.{arith}
 use borrow.Author.Tests.{leb-true, le-leb, ne_eqb, eq-eqb}
-use Rattle.word.specs.Word.{if◌then◌else◌}
 use Rattle.word.proofs.Tests.{true_false}
 use Rattle.word.proofs.Truth.{and_left, and_right, and_both}
 use Rattle.tables.specs.Views.{cores_of}

@@ -1,5 +1,6 @@
 -- Demand 2 for apic-initCore and apic-startCore.
 -- Assumes nothing.
+use Rattle.std.specs.Prelude.{if◌then◌else◌}
 use mathlib.Core.Path.{◌≡◌, refl, sym, ◌∙◌, ap}
 use mathlib.Core.Bool.{Bool, true, false, not, ◌&&◌}
 use mathlib.Core.List.{List}
@@ -11,7 +12,7 @@ use lib.Seq.{get_or-set_same, get_or-set_other, take-set-lt, drop-set-add}
 use native.Mathlib.Nat.{mod-eq_of_lt}
 use native.Mathlib.Omega.{arith}
 use borrow.Author.Tests.{lt-ltb}
-use Rattle.word.specs.Word.{if◌then◌else◌, is_set, sll}
+use Rattle.word.specs.Word.{is_set, sll}
 use Rattle.layout.specs.Layout as at
 use Rattle.layout.specs.Blocks.{block}
 use Rattle.records.specs.Records.{among}

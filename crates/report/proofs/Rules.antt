@@ -1,5 +1,6 @@
 -- The two rules of overflow, the table's and the trade's: where they part, and what that is to the causes of a core's step and to what takes effect.
 -- Assumes nothing.
+use Rattle.std.specs.Prelude.{if◌then◌else◌}
 use mathlib.Core.Path.{◌≡◌, refl, sym, ◌∙◌, ap, subst}
 use mathlib.Core.Bool.{Bool, true, false, not, ◌&&◌, ◌||◌}
 use mathlib.Core.List.{[], ◌∷◌}
@@ -8,7 +9,7 @@ use native.Mathlib.Nat.{div-div-eq-div-mul}
 use native.Mathlib.Omega.{arith}
 use lib.Dec.{T, eqb, ltb}
 use borrow.Author.Tests.{eqb-true}
-use Rattle.word.specs.Word.{if◌then◌else◌, field, is_set}
+use Rattle.word.specs.Word.{field, is_set}
 use Rattle.word.proofs.Tests.{same, truth, and_false}
 use Rattle.word.proofs.Truth as truths
 use Rattle.layout.specs.Layout as at

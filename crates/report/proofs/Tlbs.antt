@@ -1,5 +1,6 @@
 -- Demand 2 for the TLB's own steps: tlb-create, tlb-extend and tlb-set-accessed.
 -- Assumes nothing.
+use Rattle.std.specs.Prelude.{if◌then◌else◌}
 use mathlib.Core.Path.{◌≡◌, refl, sym, ◌∙◌, ap, ap₂, subst}
 use mathlib.Core.Bool.{Bool, true, false, not, ◌&&◌, ◌||◌}
 use mathlib.Core.List.{List, ◌∷◌}
@@ -8,7 +9,6 @@ use lib.Dec.{eqb, ltb, leb}
 use lib.ListN.{length}
 use native.Mathlib.Omega.{arith}
 use borrow.Author.Tests.{lt-ltb, le-ltb, leb-true, leb-false, eqb-true}
-use Rattle.word.specs.Word.{if◌then◌else◌}
 use Rattle.word.specs.Bytes.{bytes_at}
 use Rattle.word.proofs.Bytes.{Bytes}
 use Rattle.word.proofs.Tests.{true_false, or_false}

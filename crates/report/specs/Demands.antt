@@ -15,8 +15,8 @@
 -- The numbers of records, the order of the walks and the free chain are no part of a configuration. Nothing here fixes them but that tables stay sound:
 -- they are as step itself defines them (machine, specs/Step), and the code is proved equal to that.
 -- Assumes nothing.
-use Rattle.std.specs.Prelude.{◌≡◌, Bool, true, false, not, ◌&&◌, List, [], ◌∷◌, ℕ, ◌+◌, ◌-◌, ◌*◌, ◌^◌, ◌<◌, ◌≤◌, eqb, ltb, leb, ◌+ℤ◌, ◌-ℤ◌, length, get_or}
-use Rattle.word.specs.Word.{if◌then◌else◌, bit, is_set, signed, within}
+use Rattle.std.specs.Prelude.{if◌then◌else◌, ◌≡◌, Bool, true, false, not, ◌&&◌, List, [], ◌∷◌, ℕ, ◌+◌, ◌-◌, ◌*◌, ◌^◌, ◌<◌, ◌≤◌, eqb, ltb, leb, ◌+ℤ◌, ◌-ℤ◌, length, get_or}
+use Rattle.word.specs.Word.{bit, is_set, signed, within}
 use Rattle.layout.specs.Layout as at
 use Rattle.layout.specs.Blocks.{block}
 use Rattle.decode.specs.declared.Immediate.TheVariants.{Addi, Addiu}

@@ -1,5 +1,6 @@
 -- What a verdict of yes says: its conditions, the sides' pages, and the machine where a list begins.
 -- Assumes nothing.
+use Rattle.std.specs.Prelude.{if◌then◌else◌}
 use mathlib.Core.Path.{◌≡◌, refl, sym, ap, ap₂, ◌∙◌}
 use mathlib.Core.Logic.{◌⊎◌, inl, inr, ⊎_elim}
 use mathlib.Core.Bool.{Bool, true, false, ◌&&◌, ◌||◌, not}
@@ -7,7 +8,7 @@ use mathlib.Core.List.{List, ◌++◌}
 use Prim.Native.Nat.{ℕ, ◌/◌, ◌%◌, ◌<◌, ◌≤◌}
 use native.Mathlib.Omega.{arith}
 use lib.ListN.{length, get_or}
-use Rattle.word.specs.Word.{if◌then◌else◌, is_set}
+use Rattle.word.specs.Word.{is_set}
 use Rattle.word.proofs.Truth.{and_left, and_right, or_cases, or_none_left, or_none_right, clash}
 use Rattle.layout.specs.Layout.{page_bytes}
 use Rattle.layout.specs.Blocks.{block}

@@ -1,5 +1,6 @@
 -- What the functions inside apart answer (specs/inner/Sides), tied to Apart.
 -- Assumes nothing.
+use Rattle.std.specs.Prelude.{if◌then◌else◌}
 use mathlib.Core.Path.{◌≡◌, refl, sym, ap, ap₂, subst, ◌∙◌}
 use mathlib.Core.Bool.{Bool, true, false, ◌&&◌, ◌||◌, not}
 use mathlib.Core.List.{List, [], ◌∷◌, ◌++◌}
@@ -11,7 +12,7 @@ use lib.ListN.{length, get_or, take, replicate, length-replicate}
 use lib.Seq.{length-take-le}
 use lib.Dec.{eqb}
 use borrow.Author.Tests.{not-true, not-false}
-use Rattle.word.specs.Word.{is_set, flag, if◌then◌else◌, with_bit}
+use Rattle.word.specs.Word.{is_set, flag, with_bit}
 use Rattle.word.proofs.Truth.{and_left, and_right, and_both, tested, and-true, clash}
 use Rattle.layout.specs.Blocks.{block}
 use Rattle.records.specs.Records.{all}

@@ -1,5 +1,6 @@
 -- A step writes only where its side may, and its block stays good unless it takes an interrupt.
 -- Assumes nothing.
+use Rattle.std.specs.Prelude.{if◌then◌else◌}
 use mathlib.Core.Path.{◌≡◌, refl, sym, ap, subst, ◌∙◌}
 use mathlib.Core.Logic.{⊎_elim}
 use mathlib.Core.Bool.{Bool, true, false, ◌&&◌, ◌||◌, not, false≢true, true≢false}
@@ -10,7 +11,7 @@ use lib.ListN.{length, set}
 use lib.Dec.{eqb, leb}
 use borrow.Author.Tests.{eqb-true, leb-true, eq-eqb, not-false}
 use Rattle.word.proofs.Tests.{and_false}
-use Rattle.word.specs.Word.{if◌then◌else◌, flag}
+use Rattle.word.specs.Word.{flag}
 use Rattle.word.specs.Bytes.{bytes_at}
 use Rattle.word.proofs.Bytes.{Bytes}
 use Rattle.word.proofs.Truth.{and_left, and_right, or_cases, or_first, or_none_left, or_none_right, clash}

@@ -1,12 +1,13 @@
 -- Demand 3.
 -- Assumes nothing.
+use Rattle.std.specs.Prelude.{if◌then◌else◌}
 use mathlib.Core.Path.{◌≡◌, refl, sym, ap, subst, ◌∙◌}
 use mathlib.Core.Bool.{Bool, true, false, ◌&&◌}
 use mathlib.Core.List.{List, [], ◌∷◌}
 use Prim.Native.Nat.{ℕ, ◌≤◌, ◌<◌}
 use native.Mathlib.Omega.{arith}
 use lib.ListN.{take}
-use Rattle.word.specs.Word.{if◌then◌else◌, is_set}
+use Rattle.word.specs.Word.{is_set}
 use Rattle.word.proofs.Truth.{tested}
 use Rattle.layout.specs.Blocks.{block}
 use Rattle.tables.specs.Views.{cores_of, pages_of}

@@ -1,12 +1,12 @@
 -- Two lists of steps over any step function: what one party observes.
 -- Assumes nothing.
+use Rattle.std.specs.Prelude.{if◌then◌else◌}
 use mathlib.Core.Path.{◌≡◌, refl, sym, ap, ap₂, subst, ◌∙◌}
 use mathlib.Core.Bool.{Bool, true, false, ◌&&◌}
 use mathlib.Core.List.{List, [], ◌∷◌}
 use Prim.Native.Nat.{ℕ, zero, suc}
 use lib.ListN.{take}
 use native.Mathlib.Omega.{arith}
-use Rattle.word.specs.Word.{if◌then◌else◌}
 use Rattle.word.proofs.Truth.{and_left, and_right, tested}
 use Rattle.reach.specs.Lists.{select}
 

@@ -1,7 +1,7 @@
 -- The operation Apart (01).
 -- Assumes nothing.
-use Rattle.std.specs.Prelude.{Bool, ◌&&◌, not, List, ◌++◌, ℕ, zero, suc, ◌+◌, length}
-use Rattle.word.specs.Word.{if◌then◌else◌, is_set, flag, with_bit}
+use Rattle.std.specs.Prelude.{if◌then◌else◌, Bool, ◌&&◌, not, List, ◌++◌, ℕ, zero, suc, ◌+◌, length}
+use Rattle.word.specs.Word.{is_set, flag, with_bit}
 use Rattle.layout.specs.Blocks.{block}
 use Rattle.records.specs.Records.{all}
 use Rattle.tables.specs.Views.{cores_of, pages_of, user_mode, runs}

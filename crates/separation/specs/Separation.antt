@@ -2,8 +2,8 @@
 -- the same. A core's count of refusals, word 115 of its block (02, 'Whose refusals?'), is among what its group sees, and
 -- another group's refusals never show there: `Refusals`, below.
 -- Assumes nothing.
-use Rattle.std.specs.Prelude.{◌≡◌, ◌⊎◌, Bool, true, false, ◌&&◌, ◌||◌, not, List, [], ◌∷◌, map, ℕ, ◌+◌, ◌*◌, ◌/◌, ◌%◌, ◌^◌, ◌<◌, eqb, leb, length, get_or, take, drop}
-use Rattle.word.specs.Word.{if◌then◌else◌, is_set}
+use Rattle.std.specs.Prelude.{if◌then◌else◌, ◌≡◌, ◌⊎◌, Bool, true, false, ◌&&◌, ◌||◌, not, List, [], ◌∷◌, map, ℕ, ◌+◌, ◌*◌, ◌/◌, ◌%◌, ◌^◌, ◌<◌, eqb, leb, length, get_or, take, drop}
+use Rattle.word.specs.Word.{is_set}
 use Rattle.layout.specs.Layout.{page_bytes, block_at, core_refusals}
 use Rattle.layout.specs.Blocks.{block}
 use Rattle.tables.specs.Views.{cores_of, pages_of, user_mode, core_refusals_of}

@@ -1,5 +1,6 @@
 -- Laws of the front of an input, by the code's tests of it; and the machine that is made.
 -- Assumes nothing.
+use Rattle.std.specs.Prelude.{if◌then◌else◌}
 use mathlib.Core.Path.{◌≡◌, refl, sym, ap, ◌∙◌, subst}
 use mathlib.Core.Bool.{Bool, true, false, not, ◌&&◌, ◌||◌}
 use mathlib.Core.List.{List}
@@ -9,7 +10,6 @@ use lib.Dec.{T, eqb, ltb, leb, leb→le}
 use lib.ListN.{length, take, drop, length-drop}
 use lib.Seq.{length-take-le}
 use borrow.Author.Tests.{lt-leb, le-leb, lt-ltb, le-ltb}
-use Rattle.word.specs.Word.{if◌then◌else◌}
 use Rattle.word.proofs.Tests.{and_left, and_right}
 use Rattle.text.specs.Text.{ascii}
 use Rattle.layout.specs.Layout.{table_words, most_cores}

@@ -1,7 +1,7 @@
 -- All that the run program says: a text by its input (01, 'The run program reads from standard input').
 -- Assumes nothing.
-use Rattle.std.specs.Prelude.{Bool, ◌&&◌, List, [], ◌++◌, ℕ, zero, suc, ◌+◌, ◌-◌, ◌*◌, ◌/◌, ◌%◌, eqb, leb, length, take, drop, get_or}
-use Rattle.word.specs.Word.{if◌then◌else◌, flag}
+use Rattle.std.specs.Prelude.{if◌then◌else◌, Bool, ◌&&◌, List, [], ◌++◌, ℕ, zero, suc, ◌+◌, ◌-◌, ◌*◌, ◌/◌, ◌%◌, eqb, leb, length, take, drop, get_or}
+use Rattle.word.specs.Word.{flag}
 use Rattle.word.specs.Bytes.{words_in}
 use Rattle.text.specs.Text.{ascii}
 use Rattle.layout.specs.Layout.{page_bytes, most_cores}

@@ -1,9 +1,9 @@
 // What the run program says, by its input (specs/Simulated.antt): at its start, for a part of its steps, at its end.
 #![tactic(auto)]
 
-ghost use Rattle.std.specs.Prelude.{◌≡◌, true, ◌+◌, ◌*◌, ◌/◌, ◌%◌, ◌≤◌, ◌<◌, ◌^◌, length, drop};
+ghost use Rattle.std.specs.Prelude.{if◌then◌else◌, ◌≡◌, true, ◌+◌, ◌*◌, ◌/◌, ◌%◌, ◌≤◌, ◌<◌, ◌^◌, length, drop};
 ghost use Rattle.io.specs.Counts.{IsPrefixLen};
-ghost use Rattle.word.specs.Word.{if◌then◌else◌, flag};
+ghost use Rattle.word.specs.Word.{flag};
 ghost use Rattle.word.specs.Bytes.{words_in};
 ghost use Rattle.text.specs.Text.{Put};
 ghost use Rattle.layout.specs.Layout.{table_words};

@@ -2,6 +2,7 @@
 -- part in it, so six words of kind 0 to 8 that name a core count as the well-formed step with that kind and core does;
 -- all other words count in the header.
 -- Assumes nothing.
+use Rattle.std.specs.Prelude.{if◌then◌else◌}
 use mathlib.Core.Path.{◌≡◌, refl}
 use mathlib.Core.Logic.{◌≢◌}
 use mathlib.Core.Bool.{Bool, true, false, ◌&&◌}
@@ -10,7 +11,6 @@ use Prim.Native.Nat.{ℕ, ◌+◌, ◌^◌, ◌<◌, ◌≤◌}
 use lib.Dec.{eqb, ltb}
 use lib.ListN.{length}
 use borrow.Author.Tests.{ltb-true, ne_eqb, le-ltb}
-use Rattle.word.specs.Word.{if◌then◌else◌}
 use Rattle.word.proofs.Truth.{and_right, and_none}
 use Rattle.layout.specs.Layout.{block_at, refusals, core_refusals}
 use Rattle.steps.specs.declared.Step.{Step}

@@ -1,7 +1,6 @@
 -- What a step is (01, 'A step is six words'): kind, core or line, and four more. Words that a kind does not name are zero; a walk's words are not judged.
 -- Assumes nothing.
-use Rattle.std.specs.Prelude.{Bool, ◌&&◌, List, ℕ, ◌+◌, ◌^◌, eqb, ltb, length, get_or}
-use Rattle.word.specs.Word.{if◌then◌else◌}
+use Rattle.std.specs.Prelude.{if◌then◌else◌, Bool, ◌&&◌, List, ℕ, ◌+◌, ◌^◌, eqb, ltb, length, get_or}
 use Rattle.layout.specs.Layout.{block_at, refusals, core_refusals}
 use Rattle.records.specs.declared.Walk.{Walk}
 use Rattle.steps.specs.declared.Step.{Step}

@@ -1,5 +1,6 @@
 -- The bytes of an access beneath the store buffer: all of one port word, or all of memory.
 -- Assumes nothing.
+use Rattle.std.specs.Prelude.{if◌then◌else◌}
 use mathlib.Core.Path.{◌≡◌, refl, ap, ◌∙◌}
 use Prim.Native.Nat.{ℕ, ◌+◌, ◌-◌, ◌*◌, ◌/◌, ◌%◌, ◌^◌, ◌<◌, ◌≤◌}
 use mathlib.Core.Bool.{Bool, true, false, ◌&&◌}
@@ -10,7 +11,7 @@ use lib.ListN.{get_or, drop}
 use lib.Seq.{get_or-take, get_or-drop}
 use lib.Dec.{ltb, leb}
 use borrow.Author.Tests.{ltb-true, leb-true}
-use Rattle.word.specs.Word.{if◌then◌else◌, minus}
+use Rattle.word.specs.Word.{minus}
 use Rattle.word.specs.Bytes.{byte}
 use Rattle.word.proofs.Laws.{ltb_same, leb_same}
 use Rattle.word.proofs.Truth.{and_left, and_right}

@@ -1,5 +1,6 @@
 -- The newest hit is the last store of the list that hits, and there is none exactly where no store hits.
 -- Assumes nothing.
+use Rattle.std.specs.Prelude.{if◌then◌else◌}
 use mathlib.Core.Path.{◌≡◌, refl, sym, ap, ◌∙◌}
 use mathlib.Core.Logic.{◌⊎◌, inl, inr, ⊎_elim}
 use Prim.Native.Nat.{ℕ, zero, suc, ◌+◌, ◌<◌, ◌≤◌}
@@ -8,7 +9,7 @@ use mathlib.Core.List.{List, [], ◌∷◌}
 use native.Mathlib.Omega.{arith}
 use lib.ListN.{length, get_or}
 use borrow.Author.Tests.{not-false, eqb-true}
-use Rattle.word.specs.Word.{if◌then◌else◌, plus}
+use Rattle.word.specs.Word.{plus}
 use Rattle.word.proofs.Laws.{side}
 use Rattle.records.specs.declared.Store.{Store}
 use Rattle.records.specs.Records.{no_store}

@@ -1,5 +1,6 @@
 -- One pass over the pending stores finds what the definitions say of each byte.
 -- Assumes nothing.
+use Rattle.std.specs.Prelude.{if◌then◌else◌}
 use mathlib.Core.Path.{◌≡◌, refl, sym, ap, ◌∙◌}
 use mathlib.Core.Logic.{◌≢◌, ⊎_elim}
 use Prim.Native.Nat.{ℕ, zero, suc, ◌+◌, ◌^◌, ◌<◌, ◌≤◌}
@@ -9,7 +10,7 @@ use native.Mathlib.Omega.{arith}
 use native.Mathlib.Decide.{ℕ_discrete}
 use lib.ListN.{length, get_or}
 use borrow.Author.Tests.{eq-eqb, ne_eqb}
-use Rattle.word.specs.Word.{if◌then◌else◌, plus}
+use Rattle.word.specs.Word.{plus}
 use Rattle.word.proofs.Laws.{side}
 use Rattle.word.proofs.Truth.{or_true}
 use Rattle.records.specs.declared.Store.{Store}

@@ -1,5 +1,6 @@
 -- A load is served by one pending store, or by none.
 -- Assumes nothing.
+use Rattle.std.specs.Prelude.{if◌then◌else◌}
 use mathlib.Core.Path.{◌≡◌, refl, sym, ap, ◌∙◌}
 use Prim.Native.Nat.{ℕ, ◌+◌, ◌-◌, ◌*◌, ◌/◌, ◌%◌, ◌^◌, ◌<◌, ◌≤◌}
 use mathlib.Core.Bool.{Bool, true, false}
@@ -8,7 +9,7 @@ use native.Mathlib.Omega.{arith}
 use lib.ListN.{length, get_or}
 use lib.Dec.{eqb}
 use borrow.Author.Tests.{ltb-true}
-use Rattle.word.specs.Word.{if◌then◌else◌, plus, minus}
+use Rattle.word.specs.Word.{plus, minus}
 use Rattle.word.specs.Bytes.{byte}
 use Rattle.word.proofs.Truth.{and_left, and_right, and_both}
 use Rattle.records.proofs.Facts.{all_at}

@@ -1,8 +1,8 @@
 -- The store buffer (the report, section 7: definitions 56 to 61), on the list of a core's pending stores, oldest first.
 -- Places count from the oldest, so that the newest has the highest, as in the report.
 -- Assumes nothing.
-use Rattle.std.specs.Prelude.{ℕ, zero, suc, ◌+◌, ◌-◌, Bool, true, false, ◌||◌, not, List, [], ◌∷◌, get_or, eqb, ltb}
-use Rattle.word.specs.Word.{if◌then◌else◌, plus, minus}
+use Rattle.std.specs.Prelude.{if◌then◌else◌, ℕ, zero, suc, ◌+◌, ◌-◌, Bool, true, false, ◌||◌, not, List, [], ◌∷◌, get_or, eqb, ltb}
+use Rattle.word.specs.Word.{plus, minus}
 use Rattle.word.specs.Bytes.{byte}
 use Rattle.records.specs.declared.Store.{Store}
 use Rattle.records.specs.Records.{no_store}

@@ -1,7 +1,6 @@
 -- The step of the store buffer (the report, section 11.3): the oldest store, and where it goes.
 -- Assumes nothing.
-use Rattle.std.specs.Prelude.{ℕ, ◌+◌, List, [], ◌∷◌, eqb, leb}
-use Rattle.word.specs.Word.{if◌then◌else◌}
+use Rattle.std.specs.Prelude.{if◌then◌else◌, ℕ, ◌+◌, List, [], ◌∷◌, eqb, leb}
 use Rattle.records.specs.declared.Store.{Store}
 use Rattle.records.specs.Contents.{local_port, io_port}
 use Rattle.store_buffer.specs.declared.Oldest.{Oldest}

@@ -1,7 +1,7 @@
 -- The memory that a core sees (the report, definitions 4 and 70 to 77), and what a load gives.
 -- Assumes nothing.
-use Rattle.std.specs.Prelude.{ℕ, zero, suc, ◌+◌, ◌*◌, ◌/◌, ◌%◌, Bool, ◌&&◌, ◌||◌, List, length, get_or, take, drop, eqb, ltb}
-use Rattle.word.specs.Word.{if◌then◌else◌, plus, minus}
+use Rattle.std.specs.Prelude.{if◌then◌else◌, ℕ, zero, suc, ◌+◌, ◌*◌, ◌/◌, ◌%◌, Bool, ◌&&◌, ◌||◌, List, length, get_or, take, drop, eqb, ltb}
+use Rattle.word.specs.Word.{plus, minus}
 use Rattle.word.specs.Bytes.{byte}
 use Rattle.layout.specs.Layout.{local_ports, io_ports, ports}
 use Rattle.records.specs.declared.Store.{Store}

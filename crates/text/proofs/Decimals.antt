@@ -1,5 +1,6 @@
 -- The decimal text of a number: how long it is, which bytes it has not, and that it tells the number.
 -- Assumes nothing.
+use Rattle.std.specs.Prelude.{if◌then◌else◌}
 use mathlib.Core.Path.{◌≡◌, refl, sym, ap, ◌∙◌}
 use mathlib.Core.Bool.{Bool, true, false, not, ◌&&◌}
 use mathlib.Core.List.{List, [], ◌∷◌, ◌++◌}
@@ -10,7 +11,6 @@ use lib.Dec.{eqb, ltb}
 use lib.ListN.{length, length-append}
 use borrow.Author.Tests.{lt-ltb, ltb-true, ne_eqb}
 use Rattle.io.specs.Digits.{hex_digit_ascii}
-use Rattle.word.specs.Word.{if◌then◌else◌}
 use Rattle.text.specs.Text.{decimal_in, decimal}
 
 -- ---- how long it is

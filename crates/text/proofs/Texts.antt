@@ -1,5 +1,6 @@
 -- Laws of texts in a buffer: one byte more, one text after another, and the digits of a number.
 -- Assumes nothing.
+use Rattle.std.specs.Prelude.{if◌then◌else◌}
 use mathlib.Core.Path.{◌≡◌, refl, sym, ap, ◌∙◌, subst}
 use mathlib.Core.Bool.{Bool}
 use mathlib.Core.Logic.{⊎_elim}
@@ -13,7 +14,6 @@ use lib.Seq.{take-suc, take-suc-set, length-take-le, take_all, drop-set-lt, drop
 use borrow.Author.Tests.{lt-ltb, le-ltb}
 use Rattle.io.specs.Counts.{IsPrefixLen}
 use Rattle.io.specs.Digits.{last_digits, hex_digit_ascii, IsDigitCount}
-use Rattle.word.specs.Word.{if◌then◌else◌}
 use Rattle.word.proofs.Laws.{side}
 use Rattle.text.specs.Text.{Put, decimal_in, decimal, blanks, padded}
 

@@ -1,10 +1,9 @@
 -- Texts as bytes, numbers in them, and what it is to put a text into a buffer.
 -- Assumes nothing.
-use Rattle.std.specs.Prelude.{◌≡◌, List, [], ◌∷◌, ◌++◌, ℕ, zero, suc, ◌+◌, ◌-◌, ◌/◌, ◌%◌, ltb, length, take, drop}
+use Rattle.std.specs.Prelude.{if◌then◌else◌, ◌≡◌, List, [], ◌∷◌, ◌++◌, ℕ, zero, suc, ◌+◌, ◌-◌, ◌/◌, ◌%◌, ltb, length, take, drop}
 use Prim.Native.Char.{code}
 use Prim.Native.String.{String, [] as none, ◌∷◌ as ◌then◌}
 use Rattle.io.specs.Digits.{hex_digit_ascii}
-use Rattle.word.specs.Word.{if◌then◌else◌}
 
 -- the bytes of a text in ASCII
 abbrev pub ascii : String → List ℕ

@@ -1,6 +1,7 @@
 -- What a tick and a write at the ports change: the lines, the period and the ticks left. Of the lines that is line 0
 -- alone, and words stay words.
 -- Assumes nothing.
+use Rattle.std.specs.Prelude.{if◌then◌else◌}
 use mathlib.Core.Path.{◌≡◌, refl, ◌∙◌, ap}
 use mathlib.Core.Logic.{◌≢◌, ◌⊎◌, inl, inr}
 use mathlib.Core.Bool.{Bool, true, false}
@@ -10,7 +11,7 @@ use native.Mathlib.Omega.{arith}
 use lib.ListN.{length, get_or, set}
 use lib.Seq.{get_or-set_same, get_or-set_other}
 use lib.Dec.{eqb}
-use Rattle.word.specs.Word.{if◌then◌else◌, bit, with_bit}
+use Rattle.word.specs.Word.{bit, with_bit}
 use Rattle.word.proofs.Bits.{put_below, bit_other}
 use Rattle.word.proofs.Words.{Words, set_below}
 use Rattle.layout.specs.Layout.{header_words, lines, period, left}

@@ -1,7 +1,6 @@
 -- The timer on the header words of the tables (02, 'A timer on line 0').
 -- Assumes nothing.
-use Rattle.std.specs.Prelude.{Bool, ◌&&◌, ◌||◌, List, ℕ, ◌-◌, get_or, set, eqb, leb}
-use Rattle.word.specs.Word.{if◌then◌else◌}
+use Rattle.std.specs.Prelude.{if◌then◌else◌, Bool, ◌&&◌, ◌||◌, List, ℕ, ◌-◌, get_or, set, eqb, leb}
 use Rattle.layout.specs.Layout.{period, left}
 use Rattle.layout.specs.Lines.{line_set}
 

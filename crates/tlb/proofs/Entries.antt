@@ -1,5 +1,6 @@
 -- Laws of page table entries: the accessed bit and the other fields, and the bytes of an entry in memory.
 -- Assumes nothing.
+use Rattle.std.specs.Prelude.{if◌then◌else◌}
 use mathlib.Core.Path.{◌≡◌, refl, sym, ap, ap₂, subst, ◌∙◌}
 use mathlib.Core.Bool.{Bool, true, false}
 use mathlib.Core.List.{List}
@@ -9,7 +10,6 @@ use lib.ListN.{length, get_or, set}
 use lib.Seq.{set-get_or, get_or-set_other}
 use lib.Dec.{eqb, leb}
 use borrow.Author.Tests.{eq-eqb, ne_eqb, eqb-true, eqb-false, le-leb, lt-leb}
-use Rattle.word.specs.Word.{if◌then◌else◌}
 use Rattle.word.specs.Bytes.{bytes_at, put}
 use Rattle.word.proofs.Bytes.{Bytes}
 use Rattle.tlb.specs.declared.Entry.TheVariants.{Word, Missing}

@@ -1,5 +1,6 @@
 -- Laws of the TLB's own steps: what an accepted one has shown, that what it adds is sound, and what it writes.
 -- Assumes nothing.
+use Rattle.std.specs.Prelude.{if◌then◌else◌}
 use mathlib.Core.Path.{◌≡◌, refl, subst}
 use mathlib.Core.Bool.{Bool, true, false, ◌&&◌, ◌||◌, not}
 use mathlib.Core.List.{List, [], ◌∷◌}
@@ -8,7 +9,6 @@ use native.Mathlib.Omega.{arith}
 use lib.ListN.{length}
 use lib.Dec.{eqb, leb}
 use borrow.Author.Tests.{eqb-true, leb-true, not-true}
-use Rattle.word.specs.Word.{if◌then◌else◌}
 use Rattle.word.specs.Bytes.{bytes_at}
 use Rattle.word.proofs.Bytes.{Bytes, bytes_lt}
 use Rattle.word.proofs.Truth.{and_left, and_right}

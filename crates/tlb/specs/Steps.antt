@@ -1,8 +1,7 @@
 -- What the TLB's own steps decide (the report, 11.3: tlb-create, tlb-extend, tlb-set-accessed). A guard that is decided and fails is
 -- refusal 6; where none fails and the entry that one needs is not in memory, 7.
 -- Assumes nothing.
-use Rattle.std.specs.Prelude.{Bool, ◌&&◌, not, List, ℕ, ◌+◌, get_or, eqb}
-use Rattle.word.specs.Word.{if◌then◌else◌}
+use Rattle.std.specs.Prelude.{if◌then◌else◌, Bool, ◌&&◌, not, List, ℕ, ◌+◌, get_or, eqb}
 use Rattle.layout.specs.Layout.{spr, pto}
 use Rattle.records.specs.declared.Walk.{Walk}
 use Rattle.records.specs.Records.{among, walks}

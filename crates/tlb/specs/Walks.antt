@@ -1,7 +1,7 @@
 -- Walks, page table entries and translation requests (the report, section 5). A walk is its two words, an entry its word.
 -- Assumes nothing.
-use Rattle.std.specs.Prelude.{Bool, ◌&&◌, ◌||◌, not, List, ℕ, ◌+◌, ◌-◌, ◌*◌, ◌/◌, ◌%◌, ◌^◌, length, eqb, leb}
-use Rattle.word.specs.Word.{if◌then◌else◌, is_set, plus}
+use Rattle.std.specs.Prelude.{if◌then◌else◌, Bool, ◌&&◌, ◌||◌, not, List, ℕ, ◌+◌, ◌-◌, ◌*◌, ◌/◌, ◌%◌, ◌^◌, length, eqb, leb}
+use Rattle.word.specs.Word.{is_set, plus}
 use Rattle.word.specs.Bytes.{bytes_at}
 use Rattle.records.specs.declared.Walk.{Walk}
 use Rattle.records.specs.Records.{level_of}

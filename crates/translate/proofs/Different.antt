@@ -1,5 +1,6 @@
 -- How many different numbers a list has: as many as are kept when each is asked for in turn.
 -- Assumes nothing.
+use Rattle.std.specs.Prelude.{if◌then◌else◌}
 use mathlib.Core.Path.{◌≡◌, refl, sym, ap, ◌∙◌}
 use mathlib.Core.Bool.{Bool, true, false, ◌&&◌, ◌||◌, not, true≢false, false≢true}
 use mathlib.Core.List.{List, [], ◌∷◌, ◌++◌}
@@ -9,7 +10,7 @@ use lib.Dec.{eqb}
 use lib.ListN.{length, take, length-append}
 use lib.Seq.{length-take-le}
 use borrow.Author.Tests.{eq-eqb, ne_eqb, eqb-true, eqb-false}
-use Rattle.word.specs.Word.{if◌then◌else◌, flag}
+use Rattle.word.specs.Word.{flag}
 use Rattle.word.proofs.Truth.{and-true}
 use Rattle.reach.specs.Lists.{has, select}
 use Rattle.reach.proofs.Lists.{has_append, select_same}

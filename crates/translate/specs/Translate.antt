@@ -1,9 +1,8 @@
 -- The operation Translate (02, the first request): where up to 64 virtual addresses of a core lead, each by a walk of its own through the page
 -- tables in memory, and how many different table entries that takes.
 -- Assumes nothing.
-use Rattle.std.specs.Prelude.{Bool, not, ℕ, zero, suc, ◌+◌, ◌*◌, eqb, ltb, leb, length}
+use Rattle.std.specs.Prelude.{if◌then◌else◌, Bool, not, ℕ, zero, suc, ◌+◌, ◌*◌, eqb, ltb, leb, length}
 use mathlib.Core.List.{List, [], ◌∷◌, flat_map}
-use Rattle.word.specs.Word.{if◌then◌else◌}
 use Rattle.layout.specs.Blocks.{block}
 use Rattle.records.specs.declared.Walk.{Walk}
 use Rattle.tables.specs.Views.{cores_of, asid_of}

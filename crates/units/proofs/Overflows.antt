@@ -1,12 +1,13 @@
 -- Overflow by the instruction's number.
 -- Assumes nothing.
+use Rattle.std.specs.Prelude.{if◌then◌else◌}
 use mathlib.Core.Path.{◌≡◌, refl}
 use mathlib.Core.Bool.{true, false, not, ◌||◌}
 use Prim.Native.Nat.{ℕ}
 use lib.Dec.{eqb}
 use lib.IntN.{◌+ℤ◌, ◌-ℤ◌}
 use borrow.Author.Tests.{eq-eqb, ne_eqb}
-use Rattle.word.specs.Word.{if◌then◌else◌, signed, within}
+use Rattle.word.specs.Word.{signed, within}
 use Rattle.word.proofs.Tests.{or_false}
 use Rattle.decode.specs.declared.Instruction.{Instruction}
 use Rattle.decode.specs.Mnemonics.{number}

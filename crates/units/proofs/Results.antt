@@ -1,5 +1,6 @@
 -- The units make words of words, and the multiplication unit makes a double word.
 -- Assumes nothing.
+use Rattle.std.specs.Prelude.{if◌then◌else◌}
 use mathlib.Core.Bool.{Bool}
 use mathlib.Core.List.{List, [], ◌∷◌}
 use Prim.Native.Nat.{ℕ, ◌-◌, ◌*◌, ◌%◌, ◌^◌, ◌<◌}
@@ -9,7 +10,7 @@ use lib.Dec.{eqb, ltb}
 use lib.IntN.{◌*ℤ◌}
 use lib.Signed.{lt_z}
 use lib.Bits.{bit_or, and_lt, or_lt, xor_lt}
-use Rattle.word.specs.Word.{if◌then◌else◌, signed}
+use Rattle.word.specs.Word.{signed}
 use Rattle.word.proofs.Laws.{below, sra_lt, twoc_lt}
 use Rattle.word.proofs.Words.{if_lt}
 use Rattle.units.specs.Control.{Line, choose}

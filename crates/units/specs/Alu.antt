@@ -1,10 +1,10 @@
 -- The ALU (6.1.2): the results of its table as printed, and the control bits of definition 28. Its overflow column stands where δ does (report), since the machine
 -- goes by Overflow.
 -- Assumes nothing.
-use Rattle.std.specs.Prelude.{Bool, not, ◌&&◌, ◌||◌, List, [], ◌∷◌, ℕ, ◌+◌, ◌-◌, ◌*◌, ◌%◌, ◌^◌, ltb}
+use Rattle.std.specs.Prelude.{if◌then◌else◌, Bool, not, ◌&&◌, ◌||◌, List, [], ◌∷◌, ℕ, ◌+◌, ◌-◌, ◌*◌, ◌%◌, ◌^◌, ltb}
 use Rattle.std.specs.Int.Signed.{lt_z}
 use Rattle.std.specs.Int.Bits.{bit_and, bit_or, bit_xor}
-use Rattle.word.specs.Word.{if◌then◌else◌, field, is_set, signed, plus, minus}
+use Rattle.word.specs.Word.{field, is_set, signed, plus, minus}
 use Rattle.units.specs.Control.{Line, line, choose}
 
 -- the result column at the operands a and b; i says that the instruction is of I-type

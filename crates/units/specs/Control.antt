@@ -1,7 +1,6 @@
 -- A table by control bits, as the report prints it: an entry for each line.
 -- Assumes nothing.
-use Rattle.std.specs.Prelude.{List, [], ◌∷◌, ℕ, eqb}
-use Rattle.word.specs.Word.{if◌then◌else◌}
+use Rattle.std.specs.Prelude.{if◌then◌else◌, List, [], ◌∷◌, ℕ, eqb}
 
 pub record Line (A : Type 0) : Type 0 where
   pub control : ℕ

@@ -1,5 +1,6 @@
 -- Laws of the arguments: the first of them in the bytes, and the core that it names.
 -- Assumes nothing.
+use Rattle.std.specs.Prelude.{if◌then◌else◌}
 use mathlib.Core.Path.{◌≡◌, refl, sym, ap, ◌∙◌}
 use mathlib.Core.Bool.{Bool, true, false, ◌&&◌}
 use mathlib.Core.List.{List, [], ◌∷◌, ◌++◌, append-nil}
@@ -12,7 +13,7 @@ use lib.Dec.{eqb, leb}
 use lib.ListN.{length, get_or, take, drop, length-drop, drop_of_length-le}
 use lib.Seq.{drop-cons, drop-drop, take-suc, get_or-drop, append_snoc}
 use borrow.Author.Tests.{eq-eqb, ne_eqb, le-leb, lt-leb}
-use Rattle.word.specs.Word.{if◌then◌else◌, with_bit}
+use Rattle.word.specs.Word.{with_bit}
 use Rattle.word.proofs.Laws.{side}
 use Rattle.records.proofs.Counts.{either}
 use Rattle.verdict_text.specs.Arguments.{before, arguments_in, named_core, NoCore, asked_from}

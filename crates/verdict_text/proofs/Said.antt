@@ -1,5 +1,6 @@
 -- Laws of what is said of an input, by each test; and that nothing beyond the machine's bytes and one more is asked.
 -- Assumes nothing.
+use Rattle.std.specs.Prelude.{if◌then◌else◌}
 use mathlib.Core.Path.{◌≡◌, refl, sym, ap, ◌∙◌, subst}
 use mathlib.Core.Bool.{Bool, true, false, not, ◌&&◌, ◌||◌}
 use mathlib.Core.Logic.{⊎_elim}
@@ -10,7 +11,6 @@ use lib.Dec.{T, eqb, ltb, leb, leb→le}
 use lib.ListN.{length, take, drop, replicate, length-drop, length-replicate, drop_of_length-le}
 use lib.Seq.{take_all, take-take, length-take-le}
 use borrow.Author.Tests.{lt-ltb, le-ltb, eq-eqb, ne_eqb, eqb-true, not-false}
-use Rattle.word.specs.Word.{if◌then◌else◌}
 use Rattle.word.specs.Bytes.{words_in}
 use Rattle.word.proofs.Laws.{side}
 use Rattle.word.proofs.Tests.{and_right}

@@ -1,7 +1,7 @@
 -- How the program's arguments are read: bytes, in which each argument ends in a zero byte.
 -- Assumes nothing.
-use Rattle.std.specs.Prelude.{◌&&◌, List, [], ◌∷◌, ℕ, ◌-◌, eqb, leb, length, get_or}
-use Rattle.word.specs.Word.{if◌then◌else◌, with_bit}
+use Rattle.std.specs.Prelude.{if◌then◌else◌, ◌&&◌, List, [], ◌∷◌, ℕ, ◌-◌, eqb, leb, length, get_or}
+use Rattle.word.specs.Word.{with_bit}
 
 -- one byte more before the first of some arguments, or a first one that is this byte
 abbrev pub before : ℕ → List (List ℕ) → List (List ℕ)

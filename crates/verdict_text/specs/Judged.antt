@@ -1,7 +1,6 @@
 -- All that the program `verdict` says, but for two lines about its stack: a text by its arguments and its input.
 -- Assumes nothing.
-use Rattle.std.specs.Prelude.{Bool, false, not, ◌&&◌, List, ℕ, ◌+◌, ◌*◌, eqb, ltb, length, take, drop}
-use Rattle.word.specs.Word.{if◌then◌else◌}
+use Rattle.std.specs.Prelude.{if◌then◌else◌, Bool, false, not, ◌&&◌, List, ℕ, ◌+◌, ◌*◌, eqb, ltb, length, take, drop}
 use Rattle.word.specs.Bytes.{bytes_at, words_in}
 use Rattle.layout.specs.Layout.{table_words, page_bytes, most_cores, most_pages}
 use Rattle.tables.specs.Sound.{up_to}

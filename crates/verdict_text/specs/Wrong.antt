@@ -1,7 +1,6 @@
 -- The one line that is all there is where the arguments or the input are wrong.
 -- Assumes nothing.
-use Rattle.std.specs.Prelude.{Bool, ◌&&◌, List, ◌++◌, map, ℕ, leb}
-use Rattle.word.specs.Word.{if◌then◌else◌}
+use Rattle.std.specs.Prelude.{if◌then◌else◌, Bool, ◌&&◌, List, ◌++◌, map, ℕ, leb}
 use Rattle.text.specs.Text.{ascii, decimal}
 
 -- a byte as it is shown: a printable one, or a question mark

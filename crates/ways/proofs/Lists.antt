@@ -1,10 +1,10 @@
 -- Lists: selecting, mapping and joining, for elements of any type.
 -- Assumes nothing.
+use Rattle.std.specs.Prelude.{if◌then◌else◌}
 use mathlib.Core.Path.{◌≡◌, refl, ap, ap₂, ◌∙◌}
 use mathlib.Core.Bool.{Bool, true, false, ◌&&◌}
 use mathlib.Core.List.{List, [], ◌∷◌, ◌++◌, map, flat_map, map-append}
 use Prim.Native.Nat.{ℕ, ◌<◌}
-use Rattle.word.specs.Word.{if◌then◌else◌}
 use Rattle.records.specs.Records.{all}
 use Rattle.reach.specs.Lists.{range, select}
 use Rattle.reach.proofs.Lists.{In, in_here, in_there, Each, each_append, flat_map_append, all_append, range_in}

@@ -1,5 +1,6 @@
 -- Every way is real: followed from where it begins, through present entries, it comes to what it names, and its core is one of those that were asked.
 -- Assumes nothing.
+use Rattle.std.specs.Prelude.{if◌then◌else◌}
 use mathlib.Core.Path.{◌≡◌, refl, sym, ap, ◌∙◌}
 use mathlib.Core.Bool.{Bool, true, false}
 use mathlib.Core.List.{List, [], ◌∷◌, ◌++◌, map, flat_map, map-id, append-nil}
@@ -7,7 +8,6 @@ use Prim.Native.Nat.{ℕ, zero, suc, ◌+◌, ◌-◌, ◌≤◌, ◌<◌}
 use native.Mathlib.Omega.{arith}
 use lib.Dec.{eqb, ltb}
 use borrow.Author.Tests.{ltb-true, eq-eqb}
-use Rattle.word.specs.Word.{if◌then◌else◌}
 use Rattle.layout.specs.Blocks.{block}
 use Rattle.records.specs.Records.{walk_numbers, store_numbers}
 use Rattle.tlb.specs.declared.Entry.{Entry}

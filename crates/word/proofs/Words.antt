@@ -1,7 +1,7 @@
 -- Lists of numbers below a bound, as words and bytes are.
 -- Assumes nothing.
+use Rattle.std.specs.Prelude.{if◌then◌else◌}
 use Rattle.std.proofs.Common.{◌≡◌, ℕ, zero, suc, ◌+◌, ◌^◌, ◌<◌, Bool, true, false, List, [], ◌∷◌, ◌++◌, get_or, take, drop, set, sym, refl, ap, subst, arith, get_or-drop}
-use Rattle.word.specs.Word.{if◌then◌else◌}
 
 -- every element is below n
 abbrev pub Below : ℕ → List ℕ → Type 0

@@ -2,8 +2,8 @@
 -- proofs/Effects ties an outcome to definition 49 in Core, and `events_by_lem` of proofs/Laws ties the events to those of Interrupts;
 -- `completed` of proofs/Effects ties `entered` to definition 54.
 -- Assumes nothing.
-use Rattle.std.specs.Prelude.{Bool, true, false, not, ◌&&◌, ◌||◌, ℕ, ◌+◌, ◌*◌, ◌/◌, ◌%◌, ◌^◌, set}
-use Rattle.word.specs.Word.{if◌then◌else◌, is_set, plus, sxt, sll}
+use Rattle.std.specs.Prelude.{if◌then◌else◌, Bool, true, false, not, ◌&&◌, ◌||◌, ℕ, ◌+◌, ◌*◌, ◌/◌, ◌%◌, ◌^◌, set}
+use Rattle.word.specs.Word.{is_set, plus, sxt, sll}
 use Rattle.decode.specs.declared.Jump.{Jump}
 use Rattle.decode.specs.declared.Jump.TheVariants.{J, Jal, Jr, Jalr}
 use Rattle.decode.specs.declared.Move.{Move}

@@ -1,8 +1,7 @@
 -- A step before a refusal of it is counted: what was decided is done, or nothing is. It serves the contracts of the
 -- functions that take a step; `step_accepted` and `step_refused` of proofs/Taking tie it to `step` of specs/Step.
 -- Assumes nothing.
-use Rattle.std.specs.Prelude.{List, ℕ}
-use Rattle.word.specs.Word.{if◌then◌else◌}
+use Rattle.std.specs.Prelude.{if◌then◌else◌, List, ℕ}
 use Rattle.steps.specs.declared.Answer.{Answer}
 use Rattle.machine.specs.declared.action.Action.{Action}
 use Rattle.machine.specs.Actions.{answer_of, tables_after, memory_after}

@@ -1,9 +1,9 @@
 -- How the code keeps sets of pages: as marks in one array of bytes. It serves the contracts inside this crate alone:
 -- `filled_map` and `filled_beyond` of proofs/Closing tie the marks to specs/Reach.antt, and the contracts of fill and reach speak of that file only.
 -- Assumes nothing.
-use Rattle.std.specs.Prelude.{◌≡◌, Bool, true, false, ◌||◌, not, ℕ, ◌+◌, ◌-◌, ◌*◌, ◌/◌, ◌%◌, eqb, ltb, get_or, set}
+use Rattle.std.specs.Prelude.{if◌then◌else◌, ◌≡◌, Bool, true, false, ◌||◌, not, ℕ, ◌+◌, ◌-◌, ◌*◌, ◌/◌, ◌%◌, eqb, ltb, get_or, set}
 use mathlib.Core.List.{List, [], ◌∷◌, ◌++◌, flat_map}
-use Rattle.word.specs.Word.{if◌then◌else◌, flag, is_set}
+use Rattle.word.specs.Word.{flag, is_set}
 use Rattle.word.specs.Bytes.{bytes_at}
 use Rattle.layout.specs.Blocks.{block}
 use Rattle.records.specs.Records.{level_of, walk_in, store_in, walk_numbers, store_numbers}

@@ -2,8 +2,8 @@
 -- serves the contracts inside this crate alone; those of why and tell speak of specs/Why.antt only (proofs/Reasons ties
 -- the two).
 -- Assumes nothing.
-use Rattle.std.specs.Prelude.{◌≡◌, Bool, true, ◌&&◌, ◌||◌, not, List, ℕ, ◌<◌, ◌≤◌, eqb, ltb, length, get_or}
-use Rattle.word.specs.Word.{if◌then◌else◌, is_set, flag}
+use Rattle.std.specs.Prelude.{if◌then◌else◌, ◌≡◌, Bool, true, ◌&&◌, ◌||◌, not, List, ℕ, ◌<◌, ◌≤◌, eqb, ltb, length, get_or}
+use Rattle.word.specs.Word.{is_set, flag}
 use Rattle.tables.specs.Views.{cores_of, pages_of}
 use Rattle.reach.specs.Lists.{has, select}
 use Rattle.reach.specs.Reach.{members, reach, table_pages, reached, in_memory, map_for}

@@ -1,11 +1,11 @@
 -- `store_buffer::read_beneath` meets its contract.
 -- Assumes nothing.
+use Rattle.std.specs.Prelude.{if◌then◌else◌}
 use mathlib.Core.Path.{◌≡◌, sym, ap, ◌∙◌}
 use Prim.Native.Nat.{ℕ, ◌-◌, ◌/◌, ◌%◌, ◌^◌, ◌<◌, ◌≤◌}
 use native.Mathlib.Omega.{arith}
 use borrow.Author.Tests.{lt-ltb, le-ltb}
 use lib.Dec.{ltb}
-use Rattle.word.specs.Word.{if◌then◌else◌}
 use Rattle.layout.specs.Layout.{io_ports}
 use Rattle.store_buffer.specs.declared.Read.TheVariants.{There}
 use Rattle.store_buffer.proofs.Access.{aligned_word, aligned_sized}

@@ -1,8 +1,8 @@
 -- One pass over the pending stores, for all bytes of an access at once. It serves contracts inside alone: `pass_found` of proofs/Pass ties it to
 -- definitions 59 and 61 in Buffer.
 -- Assumes nothing.
-use Rattle.std.specs.Prelude.{ℕ, ◌-◌, List, get_or, eqb, ltb, leb}
-use Rattle.word.specs.Word.{if◌then◌else◌, minus}
+use Rattle.std.specs.Prelude.{if◌then◌else◌, ℕ, ◌-◌, List, get_or, eqb, ltb, leb}
+use Rattle.word.specs.Word.{minus}
 use Rattle.records.specs.Records.{stores, store_numbers}
 use Rattle.store_buffer.specs.declared.Hit.{Hit}
 use Rattle.store_buffer.specs.declared.Hit.TheVariants.{At, Miss}

@@ -2,8 +2,7 @@
 -- address, and a slot for each address. It serves the contracts inside this crate alone: `asked_reads` of proofs/Different ties the addresses kept to
 -- specs/Translate.antt, and the contract of translate speaks of that file only.
 -- Assumes nothing.
-use Rattle.std.specs.Prelude.{◌≡◌, false, ◌&&◌, not, List, [], ◌∷◌, ◌++◌, ℕ, ◌+◌, ◌*◌, ◌/◌, ◌%◌, ◌≤◌, ◌<◌, length, get_or, take}
-use Rattle.word.specs.Word.{if◌then◌else◌}
+use Rattle.std.specs.Prelude.{if◌then◌else◌, ◌≡◌, false, ◌&&◌, not, List, [], ◌∷◌, ◌++◌, ℕ, ◌+◌, ◌*◌, ◌/◌, ◌%◌, ◌≤◌, ◌<◌, length, get_or, take}
 use Rattle.word.specs.Bytes.{bytes_at}
 use Rattle.reach.specs.Lists.{has}
 use Rattle.translate.specs.declared.cache.Place.{Place}

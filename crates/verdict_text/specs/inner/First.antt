@@ -1,8 +1,7 @@
 -- The first of the arguments in bytes, and what follows it. It serves contracts and proofs inside alone
 -- (`first_argument` of proofs/Named ties it to the arguments).
 -- Assumes nothing.
-use Rattle.std.specs.Prelude.{List, [], ◌∷◌, ℕ, eqb}
-use Rattle.word.specs.Word.{if◌then◌else◌}
+use Rattle.std.specs.Prelude.{if◌then◌else◌, List, [], ◌∷◌, ℕ, eqb}
 
 unfoldable pub first : List ℕ → List ℕ
 first [] = []

@@ -2,9 +2,9 @@
 -- through once. Contracts of `ways` and of the judge in `reasons` alone speak of it: `find` ends with `sought`, the
 -- lowest of the ways selected, and `find_faulty` and `itself_is` (reasons, proofs/Reasons) tie it to specs/Why.antt.
 -- Assumes nothing.
-use Rattle.std.specs.Prelude.{◌≡◌, Bool, true, false, ◌&&◌, ◌||◌, not, ℕ, ◌-◌, eqb, ltb, leb, length, get_or}
+use Rattle.std.specs.Prelude.{if◌then◌else◌, ◌≡◌, Bool, true, false, ◌&&◌, ◌||◌, not, ℕ, ◌-◌, eqb, ltb, leb, length, get_or}
 use mathlib.Core.List.{List, [], map, flat_map}
-use Rattle.word.specs.Word.{if◌then◌else◌, is_set}
+use Rattle.word.specs.Word.{is_set}
 use Rattle.records.specs.Records.{all}
 use Rattle.tlb.specs.declared.Entry.{Entry}
 use Rattle.tlb.specs.Walks.{pte_p, pte_r, pte_ba}

@@ -1,9 +1,9 @@
+use Rattle.std.specs.Prelude.{if◌then◌else◌}
 use mathlib.Core.List.{[], ◌∷◌}
 use Rattle.units.specs.Alu.{alures, results}
 use Rattle.units.proofs.Lines.{by_control, unlisted}
 use mathlib.Core.Path.{◌∙◌, ap}
 use mathlib.Core.Bool.{Bool}
-use Rattle.word.specs.Word.{if◌then◌else◌}
 use Rattle.units.proofs.alu.result.Goals as goal
 
 pub returns-in-0 : goal.returns-in-0
