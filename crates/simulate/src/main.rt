@@ -1,14 +1,15 @@
 // The run program of 01: a machine and its steps from standard input, and what `simulation` says of them on standard
-// output.
+// output. A read or a write that fails ends it with an error.
 #![tactic(auto)]
 
-ghost use Rattle.std.specs.Prelude.{◌≡◌, true, ◌+◌, ◌*◌, ◌≤◌, ◌<◌, ◌^◌, length};
-ghost use Rattle.io.specs.Counts.{IsPrefixLen};
+ghost use Rattle.std.specs.Prelude.{◌≡◌, true, ◌+◌, ◌*◌, ◌≤◌, ◌<◌, ◌^◌, length, IfOk};
+ghost use Rattle.std.specs.Io.{ReadsAtMost};
 ghost use Rattle.layout.specs.Layout.{table_words};
 ghost use Rattle.simulation.specs.Simulated.{is_started, cores_byte};
 
 use layout::{BLOCK_WORDS, HEADER_WORDS};
-use libc::{STDIN_FILENO, STDOUT_FILENO};
+use std::io;
+use std::io::{ErrorKind, Read, Write};
 
 // Steps go in parts of 1,024: so many are read and answered at a time.
 const PART: usize = 24 * 1024;
@@ -23,34 +24,70 @@ struct Part {
     more: bool,
 }
 
-// Reads a part of the input, takes its steps and writes their lines.
-fn take_part(t: &mut [u32], m: &mut [u8], place: u64, accepted: u64) -> Part
-    requires { (place < 2 ^ 63) × (accepted ≤ place) }
-    ensures { (result.steps ≤ 1024) × (result.accepted ≤ place + result.steps) }
+// The system's number for a descriptor that is not open.
+const NOT_OPEN: i32 = 9;
+
+// Reads until the buffer is full or the input ends, and answers how many bytes came. An input that is closed counts as
+// an empty one, and a read that a signal interrupts is tried again.
+fn read_full(input: &mut impl Read, buf: &mut [u8]) -> io::Result<usize>
+    ensures { ReadsAtMost result buf.new }
 {
-    let mut input = [0u8; PART];
+    let mut done: usize = 0;
+    for _ in 0..u64::MAX {
+        if buf.len() <= done {
+            break;
+        }
+        match input.read(&mut buf[done..]) {
+            Ok(0) => break,
+            Ok(n) => done += n,
+            Err(e) if e.kind() == ErrorKind::Interrupted => {}
+            Err(e) if e.raw_os_error() == Some(NOT_OPEN) => break,
+            Err(e) => return Err(e),
+        }
+    }
+    Ok(done)
+}
+
+// Reads a part of the input, takes its steps and writes their lines.
+fn take_part(
+    input: &mut impl Read,
+    output: &mut impl Write,
+    t: &mut [u32],
+    m: &mut [u8],
+    place: u64,
+    accepted: u64,
+) -> io::Result<Part>
+    requires { (place < 2 ^ 63) × (accepted ≤ place) }
+    ensures { IfOk result (λ p. (p.steps ≤ 1024) × (p.accepted ≤ place + p.steps)) }
+{
+    let mut part = [0u8; PART];
     let mut out = [0u8; 65536];
-    let n = io::read_full(STDIN_FILENO, &mut input);
-    let taken = simulation::take_steps(t, m, &input[..n], place, accepted, &mut out);
+    let n = read_full(input, &mut part)?;
+    let taken = simulation::take_steps(t, m, &part[..n], place, accepted, &mut out);
     let written = taken.written;
-    io::write_all(STDOUT_FILENO, &out[..written]);
-    Part {
+    output.write_all(&out[..written])?;
+    Ok(Part {
         steps: taken.steps,
         accepted: taken.accepted,
         left: taken.left,
         more: n == PART,
-    }
+    })
 }
 
 // Takes the steps of the input to its end. (A part that is full may have another after it; the count ends no real run.)
-fn take_input(t: &mut [u32], m: &mut [u8]) {
+fn take_input(
+    input: &mut impl Read,
+    output: &mut impl Write,
+    t: &mut [u32],
+    m: &mut [u8],
+) -> io::Result<()> {
     let mut steps: u64 = 0;
     let mut accepted: u64 = 0;
     let mut left: usize = 0;
     let mut parts: u64 = 0;
     let mut more = true;
     while parts < 0x20_0000_0000_0000 && more {
-        let p = take_part(t, m, steps, accepted);
+        let p = take_part(input, output, t, m, steps, accepted)?;
         steps += p.steps;
         accepted = p.accepted;
         left = p.left;
@@ -59,52 +96,69 @@ fn take_input(t: &mut [u32], m: &mut [u8]) {
     }
     let mut out = [0u8; 64];
     let n = simulation::put_last(&mut out, steps, accepted, left);
-    io::write_all(STDOUT_FILENO, &out[..n]);
+    output.write_all(&out[..n])
 }
 
 // Reads the first two bytes of the input, and answers how many came.
-fn read_sizes(front: &mut [u8]) -> usize
+fn read_sizes(input: &mut impl Read, front: &mut [u8]) -> io::Result<usize>
     requires { 2 ≤ length front.old }
-    ensures { result ≤ 2 }
+    ensures { IfOk result (λ n. n ≤ 2) }
 {
-    io::read_full(STDIN_FILENO, &mut front[..2])
+    read_full(input, &mut front[..2])
 }
 
 // Reads the memory that they ask for to the place after them, and answers how many bytes there are then.
-fn read_memory(front: &mut [u8], sizes: usize) -> usize
+fn read_memory(input: &mut impl Read, front: &mut [u8], sizes: usize) -> io::Result<usize>
     requires { (length front.old ≡ 32770) × (sizes ≤ 2) }
-    ensures { IsPrefixLen result front.new }
+    ensures { ReadsAtMost result front.new }
 {
     let end = sizes + simulation::memory_bytes(&front[..sizes]);
-    sizes + io::read_full(STDIN_FILENO, &mut front[sizes..end])
+    let came = read_full(input, &mut front[sizes..end])?;
+    Ok(sizes + came)
 }
 
 // Makes the machine that the front of the input asks for, and takes its steps.
-fn run(front: &mut [u8], tables: &mut [u32])
+fn run(
+    input: &mut impl Read,
+    output: &mut impl Write,
+    front: &mut [u8],
+    tables: &mut [u32],
+) -> io::Result<()>
     requires { (is_started front.old ≡ true) × (length tables.old ≡ table_words (cores_byte front.old)) }
 {
     simulation::start(front, tables);
     let end = 2 + simulation::memory_bytes(front);
-    take_input(tables, &mut front[2..end]);
+    take_input(input, output, tables, &mut front[2..end])
 }
 
 // The same in the space lent, which has room for four cores.
-fn run_in(front: &mut [u8], tables: &mut [u32])
+fn run_in(
+    input: &mut impl Read,
+    output: &mut impl Write,
+    front: &mut [u8],
+    tables: &mut [u32],
+) -> io::Result<()>
     requires { (is_started front.old ≡ true) × (length tables.old ≡ 1056) }
 {
     let words = HEADER_WORDS + BLOCK_WORDS * (word::wide(front[0]) as usize);
-    run(front, &mut tables[..words]);
+    run(input, output, front, &mut tables[..words])
 }
 
-fn main() {
+// Reads the machine, says whether it is one, and takes its steps.
+fn simulate(input: &mut impl Read, output: &mut impl Write) -> io::Result<()> {
     let mut front = [0u8; 32770];
     let mut out = [0u8; 64];
-    let sizes = read_sizes(&mut front);
-    let n = read_memory(&mut front, sizes);
+    let sizes = read_sizes(input, &mut front)?;
+    let n = read_memory(input, &mut front, sizes)?;
     let r = simulation::put_first(&mut out, &front[..n]);
-    io::write_all(STDOUT_FILENO, &out[..r]);
+    output.write_all(&out[..r])?;
     if simulation::is_started(&front[..n]) {
         let mut tables = [0u32; 1056];
-        run_in(&mut front[..n], &mut tables);
+        run_in(input, output, &mut front[..n], &mut tables)?;
     }
+    Ok(())
+}
+
+fn main(rt: HostRuntime) -> io::Result<()> {
+    simulate(&mut rt.stdin(), &mut rt.stdout())
 }

@@ -1,13 +1,19 @@
 // The program of the verdict: the cores of a group as arguments, a machine from standard input, and what verdict_text
-// says of both on standard output.
+// says of both on standard output. A read of standard input or a write that fails ends it with an error.
 #![tactic(auto)]
 
+mod reading;
 mod stack;
 
-ghost use Rattle.std.specs.Prelude.{◌+◌, ◌≤◌, ◌<◌, length};
+ghost use Rattle.std.specs.Prelude.{◌+◌, ◌≤◌, ◌<◌, length, IfOk};
+ghost use Rattle.std.specs.Io.{ReadsAtMost};
 ghost use Rattle.io.specs.Counts.{IsPrefixLen};
 
-use libc::{STDIN_FILENO, STDOUT_FILENO};
+use reading::read_full;
+use std::env::{Env, FillError};
+use std::fs::Files;
+use std::io;
+use std::io::{Read, Write};
 use verdict_text::TEXT;
 
 // Room for the arguments, and a byte by which longer ones are known.
@@ -29,14 +35,13 @@ const LARGE_STACK: u64 = 25165824;
 
 // Reads an argument to a place, with a zero byte after it, and answers the place after that; or the end, where it does
 // not fit.
-fn read_argument(a: &mut [u8], at: usize, i: usize) -> usize
+fn read_argument(env: &impl Env, a: &mut [u8], at: usize, i: usize) -> usize
     requires { at ≤ length a.old }
     ensures { result ≤ length a.old }
 {
-    let n = os::arg(i, &mut a[at..]);
-    if os::errno() != 0 {
+    let Ok(n) = env.arg(i, &mut a[at..]) else {
         return a.len();
-    }
+    };
     let end = at + n;
     if end < a.len() {
         a[end] = 0;
@@ -45,15 +50,25 @@ fn read_argument(a: &mut [u8], at: usize, i: usize) -> usize
     end
 }
 
+// How many arguments there are, the program's name among them.
+fn count_arguments(env: &impl Env) -> usize {
+    for i in 0..usize::MAX {
+        if let Err(FillError::NotPresent) = env.arg(i, &mut []) {
+            return i;
+        }
+    }
+    usize::MAX
+}
+
 // Reads the arguments, and answers how many bytes they take.
-fn read_arguments(a: &mut [u8]) -> usize
+fn read_arguments(env: &impl Env, a: &mut [u8]) -> usize
     ensures { IsPrefixLen result a.new }
 {
-    let n = os::arg_count();
+    let n = count_arguments(env);
     let mut at: usize = 0;
     let mut i: usize = 1;
     while i < n {
-        at = read_argument(a, at, i);
+        at = read_argument(env, a, at, i);
         i += 1;
     }
     at
@@ -68,95 +83,115 @@ fn piece_end(done: usize, n: usize) -> usize
 }
 
 // Reads the input, as much as there is room for, and answers how many bytes came.
-fn read_input(input: &mut [u8]) -> usize
-    ensures { IsPrefixLen result input.new }
+fn read_input(reader: &mut impl Read, input: &mut [u8]) -> io::Result<usize>
+    ensures { ReadsAtMost result input.new }
 {
     let mut done: usize = 0;
     while done < input.len() {
         let end = piece_end(done, input.len());
-        let got = io::read_full(STDIN_FILENO, &mut input[done..end]);
+        let got = read_full(reader, &mut input[done..end])?;
         if got < end - done {
-            return done + got;
+            return Ok(done + got);
         }
         done = end;
     }
-    done
+    Ok(done)
 }
 
 // Reads the input into the room lent, and judges it. A full room may lack some of it, where the machine has more pages
 // than the room was made for.
-fn judge_in(out: &mut [u8], a: &[u8], input: &mut [u8], pages: u32) -> usize
+fn judge_in(
+    reader: &mut impl Read,
+    out: &mut [u8],
+    a: &[u8],
+    input: &mut [u8],
+    pages: u32,
+) -> io::Result<usize>
     requires { (12288 ≤ length out.old) × (8 ≤ length input.old) }
-    ensures { result ≤ 12288 }
+    ensures { IfOk result (λ n. n ≤ 12288) }
 {
-    let n = read_input(input);
+    let n = read_input(reader, input)?;
     let full = n == input.len();
     let cores = word::read_word(input, 0);
     let asked = word::read_word(input, 4);
     let good = (1 <= cores) & (cores <= 4) & (asked <= 4096);
     if full & good & (pages < asked) {
-        return text::put(
+        return Ok(text::put(
             out,
             0,
             b"a map of more than 1024 pages needs a larger stack: type 'ulimit -s 32768' first\n",
-        );
+        ));
     }
-    verdict_text::judge(a, &input[..n], out)
+    Ok(verdict_text::judge(a, &input[..n], out))
+}
+
+// The same in a room whose type says how many bytes it has.
+fn judge_room<const N: usize>(
+    reader: &mut impl Read,
+    out: &mut [u8],
+    a: &[u8],
+    room: &mut [u8; N],
+    pages: u32,
+) -> io::Result<usize>
+    requires { (12288 ≤ length out.old) × (8 ≤ N) }
+    ensures { IfOk result (λ n. n ≤ 12288) }
+{
+    judge_in(reader, out, a, room, pages)
 }
 
 // These two call themselves on a text that is longer than any can be, so never. But the compiler takes a function that
 // may call itself into no other: so the room is part of no other frame, and it is taken after the stack's limit was
 // asked.
-fn judge_small(out: &mut [u8], a: &[u8]) -> usize
+fn judge_small(reader: &mut impl Read, out: &mut [u8], a: &[u8]) -> io::Result<usize>
     requires { 12288 ≤ length out.old }
-    ensures { result ≤ 12288 }
+    ensures { IfOk result (λ n. n ≤ 12288) }
 {
     let mut input = [0u8; SMALL_ROOM];
-    let r = judge_in(out, a, &mut input, SMALL_PAGES);
+    let r = judge_room(reader, out, a, &mut input, SMALL_PAGES)?;
     if TEXT < r {
-        return judge_small(out, a);
+        return judge_small(reader, out, a);
     }
-    r
+    Ok(r)
 }
 
-fn judge_large(out: &mut [u8], a: &[u8]) -> usize
+fn judge_large(reader: &mut impl Read, out: &mut [u8], a: &[u8]) -> io::Result<usize>
     requires { 12288 ≤ length out.old }
-    ensures { result ≤ 12288 }
+    ensures { IfOk result (λ n. n ≤ 12288) }
 {
     let mut input = [0u8; LARGE_ROOM];
-    let r = judge_in(out, a, &mut input, u32::MAX);
+    let r = judge_room(reader, out, a, &mut input, u32::MAX)?;
     if TEXT < r {
-        return judge_large(out, a);
+        return judge_large(reader, out, a);
     }
-    r
+    Ok(r)
 }
 
 // Judges in the room that the stack allows; where the arguments are wrong, no input is waited for.
-fn judge(out: &mut [u8], a: &[u8]) -> usize
+fn judge(files: &impl Files, reader: &mut impl Read, out: &mut [u8], a: &[u8]) -> io::Result<usize>
     requires { 12288 ≤ length out.old }
-    ensures { IsPrefixLen result out.new }
+    ensures { ReadsAtMost result out.new }
 {
     if !verdict_text::asks_input(a) {
-        return verdict_text::judge(a, b"", out);
+        return Ok(verdict_text::judge(a, b"", out));
     }
-    let limit = stack::limit();
+    let limit = stack::limit(files);
     if limit < SMALL_STACK {
-        return text::put(
+        return Ok(text::put(
             out,
             0,
             b"the stack is too small: type 'ulimit -s 8192' first\n",
-        );
+        ));
     }
     if limit < LARGE_STACK {
-        return judge_small(out, a);
+        return judge_small(reader, out, a);
     }
-    judge_large(out, a)
+    judge_large(reader, out, a)
 }
 
-fn main() {
+fn main(rt: HostRuntime) -> io::Result<()> {
     let mut a = [0u8; ARGUMENT_ROOM];
     let mut out = [0u8; TEXT];
-    let n = read_arguments(&mut a);
-    let r = judge(&mut out, &a[..n]);
-    io::write_all(STDOUT_FILENO, &out[..r]);
+    let n = read_arguments(&rt, &mut a);
+    let r = judge(&rt, &mut rt.stdin(), &mut out, &a[..n])?;
+    Write::write_all(&mut rt.stdout(), &out[..r])
 }

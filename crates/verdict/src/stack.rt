@@ -1,6 +1,10 @@
-// How many bytes the stack may take, as the system says it in /proc/self/limits. (libc::getrlimit would be shorter, but
-// it fills a struct behind a reference, whose proof is long.)
+// How many bytes the stack may take, as the system says it in /proc/self/limits.
 ghost use Rattle.std.specs.Prelude.{◌+◌, ◌≤◌, ◌^◌, ◌<◌, length};
+ghost use Rattle.std.specs.Io.{ReadsAtMost};
+
+use crate::reading::read_full;
+use std::fs::{File, Files};
+use std::io;
 
 // The limit that systems give, 8 MB: it is taken where the system does not say.
 const USUAL: u64 = 8388608;
@@ -87,13 +91,18 @@ fn limit_in(s: &[u8]) -> u64 {
     number_at(s, at)
 }
 
-pub fn limit() -> u64 {
-    let fd = os::open_read(b"/proc/self/limits");
-    if fd < 0 {
-        return USUAL;
+// Reads what the system says, as much as there is room for, and answers how many bytes came.
+fn read_limits(files: &impl Files, s: &mut [u8]) -> io::Result<usize>
+    ensures { ReadsAtMost result s.new }
+{
+    let mut file = File::open(files, "/proc/self/limits")?;
+    read_full(&mut file, s)
+}
+
+pub fn limit(files: &impl Files) -> u64 {
+    let mut s = [0u8; 4096];
+    match read_limits(files, &mut s) {
+        Ok(n) => limit_in(&s[..n]),
+        Err(_) => USUAL,
     }
-    let mut s = io::buffer();
-    let n = io::read_full(fd, &mut s);
-    libc::close(fd);
-    limit_in(&s[..n])
 }

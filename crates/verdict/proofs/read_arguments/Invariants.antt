@@ -4,7 +4,7 @@ use lib.ListN.{length}
 use Rattle.verdict.proofs.read_arguments.Given as goal
 
 abbrev pub invariant-loop-i : goal.invariant-loop-i
-invariant-loop-i l = (length l.a ≡ length l.initial.a) × (l.at ≤ length l.initial.a)
+invariant-loop-i g l = (length l.a ≡ length l.initial.a) × (l.at ≤ length l.initial.a)
 
 abbrev pub decreases-loop-i : goal.decreases-loop-i
-decreases-loop-i l = l.n - l.i
+decreases-loop-i g l = l.n - l.i
