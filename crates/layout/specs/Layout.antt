@@ -38,7 +38,7 @@ header_rest = 30
 abbrev pub header_rest_words : ℕ
 header_rest_words = 2
 
--- of which the timer has the period and the ticks left (02)
+-- the two as the crate timer has them (02), which is no part of the machine yet: the period and the ticks left
 abbrev pub period : ℕ
 period = 30
 
@@ -182,7 +182,7 @@ io_ports = 0xFFFF_E000
 abbrev pub io_port_bytes : ℕ
 io_port_bytes = 8
 
--- and of the timer (02)
+-- and of the timer (02), which is no part of the machine yet
 abbrev pub timer_ports : ℕ
 timer_ports = 0xFFFF_D000
 

@@ -1,7 +1,7 @@
 -- What the interface for C answers, as one number. For a step it is answer_number (steps, specs/Answers), for a run
 -- stop_number (machine, specs/Run), for reach reached_number, and beyond_of for the word at `beyond` (reach, specs/Reach),
 -- for apart verdict_number (separation, specs/Apart), for why and its 18 words told (reasons, specs/Why), for translate
--- translated_number, and readsOf for the word at `reads` (translate, specs/Translate), for disassemble
+-- translated_number, and reads_of for the word at `reads` (translate, specs/Translate), for disassemble
 -- disassembled_number (disassemble, specs/Disassembly); for make it stands here.
 -- Assumes nothing.
 use Rattle.std.specs.Prelude.{ℕ, zero, suc, ◌+◌}

@@ -60,7 +60,7 @@ unfoldable pub different : List ℕ → ℕ
 different [] = 0
 different (x ∷ l) = if has x l then different l else suc (different l)
 
--- the entry at an address is in memory, as for entryAt
+-- the entry at an address is in memory, as for entry_at
 abbrev pub is_there : List ℕ → ℕ → Bool
 is_there m a = leb (a + 4) (length m)
 
