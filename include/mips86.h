@@ -6,7 +6,8 @@
  * The caller lends the machine's tables (32-bit words) and its memory (bytes). All of the machine is in them: nothing
  * is kept between calls, nothing is allocated, and a copy of both is a copy of the machine.
  *
- * Link with libmips86.a (x86-64 Linux). The functions are proved in Rattle; crates/mips86 has what is proved of each.
+ * Link with libmips86.a (x86-64 Linux). The functions are proved in Rattle; crates/mips86_c has what is proved
+ * of each.
  */
 #ifndef MIPS86_H
 #define MIPS86_H

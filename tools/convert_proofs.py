@@ -1,5 +1,6 @@
 #!/usr/bin/env python3
-"""convert.py NAMES CRATE [FUNCTION..]: turns the Proof.antt files below CRATE/proofs to Answers.antt and Invariants.antt.
+"""convert_proofs.py NAMES CRATE [FUNCTION..]: turns the Proof.antt files below CRATE/proofs to Answers.antt and
+Invariants.antt.
 
 NAMES is the names.json that `rt check --generated DIR --old-names` writes. The answers that only say what Rattle tries by itself are left out.
 """

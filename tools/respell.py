@@ -1,14 +1,14 @@
 #!/usr/bin/env python3
-"""respell.py [FOLDER]: gives the repository's own definitions and lemmas the spelling of today's Rattle.
+"""respell.py [FOLDER]: gives the repository's own definitions and lemmas the spelling of rattle-kit-13f.
 
 It is run once, right after the kit's port.py, over the folder that has crates/. What it does:
-  - a definition in camel case (`withBlock`) and a lemma or a field with dashes (`block-long`) get snake case; where a lemma
-    and a definition would then share a name in one file, the lemma ends in `_lem`;
+  - a definition in camel case (`withBlock`) and a lemma or a field with dashes (`block-long`) get snake case; where a
+    lemma and a definition would then share a name in one file, the lemma ends in `_lem`;
   - a definition that is a type gets upper camel case (`portWhole`);
   - plain structs and enums are `Clone, Copy`, as they were by themselves in the older language;
   - every crate asks for `tactic(auto)`;
   - the same names are respelled in clauses, in comments, in must-fail edits and in the pages of docs/.
-Names of functions in src/, of the library and of goals, strings, inputs and outputs stay as they are.
+Names of functions in src/, of the library and of goals stay as they are, and no string has one of the names.
 """
 import collections, glob, os, re, sys
 

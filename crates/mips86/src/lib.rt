@@ -1,6 +1,6 @@
 // The operations of the interface for C and Rust (mips86_c exports them, include/mips86.h): make, step, run, reach,
-// apart, why and translate on lent tables and memory, and disassemble on a word and lent bytes. A slice is a pointer and
-// a length in C, and each operation answers one number; run, reach and translate write one more word, why 18.
+// apart, why and translate on lent tables and memory, and disassemble on a word and lent bytes. A slice is a pointer
+// and a length in C, and each operation answers one number; run, reach and translate write one more word, why 18.
 #![tactic(auto)]
 
 ghost use Rattle.std.specs.Prelude.{◌≡◌, length};
