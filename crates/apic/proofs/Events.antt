@@ -1,6 +1,6 @@
 -- The external event (definition 66) by the lowest vectors of IRR and ISR.
 -- Assumes nothing.
-use Rattle.std.specs.Prelude.{if◌then◌else◌}
+use Rattle.std.specs.Prelude.{if◌then◌else◌, Some, None}
 use mathlib.Core.Path.{◌≡◌, refl, sym}
 use mathlib.Core.Bool.{Bool, true, false}
 use mathlib.Core.List.{List}
@@ -9,7 +9,6 @@ use Prim.Native.Nat.{ℕ, suc, ◌≤◌, ◌<◌}
 use native.Mathlib.Omega.{arith}
 use Rattle.word.proofs.Laws.{side}
 use Rattle.word.proofs.Truth.{clash}
-use Rattle.vector_register.specs.declared.Found.TheVariants.{Vector, None}
 use Rattle.vector_register.specs.Vectors.{bit_at, least, lowest, some_up_to}
 use Rattle.apic.specs.LocalApic.{isr, irr, event}
 use Rattle.vector_register.proofs.Least.{Unset, found_at, found_none, set_below, set_there, unset_below, unset_all}
@@ -29,7 +28,7 @@ module _ (f g : ℕ → ℕ) where
   unseen n c k l e = c k l (asked (some_up_to f k) k e).1
 
   -- no vector up to v is in service
-  open_at : (v : ℕ) → v < 256 → g v ≡ 1 → Unset g v → Unset f (suc v) → least seen 256 0 ≡ Vector v
+  open_at : (v : ℕ) → v < 256 → g v ≡ 1 → Unset g v → Unset f (suc v) → least seen 256 0 ≡ Some v
   open_at v l e c s =
       found_at seen 256 v l (rw (some_no f v s) e) (unseen v c)
 
@@ -50,17 +49,17 @@ module _ (b : List ℕ) where
   unfolding event
   event_none e = sym (found_none (seen served wanted) 256 (unseen served wanted 256 (unset_all wanted 256 e)))
 
-  module _ (v : ℕ) (e : lowest b irr ≡ Vector v) where
-    pub event_free : lowest b isr ≡ None → Vector v ≡ event b
+  module _ (v : ℕ) (e : lowest b irr ≡ Some v) where
+    pub event_free : lowest b isr ≡ None → Some v ≡ event b
     unfolding event
     event_free s =
         sym (open_at served wanted v (set_below wanted 256 v e) (set_there wanted 256 v e) (unset_below wanted 256 v e) (λ k l. unset_all served 256 s k (omega (arith, set_below wanted 256 v e))))
 
-    pub event_below : (s : ℕ) → lowest b isr ≡ Vector s → v < s → Vector v ≡ event b
+    pub event_below : (s : ℕ) → lowest b isr ≡ Some s → v < s → Some v ≡ event b
     unfolding event
     event_below s h l =
         sym (open_at served wanted v (set_below wanted 256 v e) (set_there wanted 256 v e) (unset_below wanted 256 v e) (λ k m. unset_below served 256 s h k (omega arith)))
 
-    pub event_masked : (s : ℕ) → lowest b isr ≡ Vector s → s ≤ v → None ≡ event b
+    pub event_masked : (s : ℕ) → lowest b isr ≡ Some s → s ≤ v → None ≡ event b
     unfolding event
     event_masked s h l = sym (shut_at served wanted v s l (set_there served 256 s h) (unset_below wanted 256 v e))

@@ -1,6 +1,6 @@
 -- What a step leaves: the words outside its own as they were, and words, flags and the SIPI vector in their ranges.
 -- Assumes nothing.
-use Rattle.std.specs.Prelude.{if◌then◌else◌}
+use Rattle.std.specs.Prelude.{if◌then◌else◌, Option, Some, None}
 use mathlib.Core.Path.{◌≡◌, refl, sym, ◌∙◌, subst}
 use mathlib.Core.Bool.{Bool, true, false}
 use mathlib.Core.List.{List}
@@ -14,8 +14,6 @@ use borrow.Author.Tests.{ltb-true}
 use Rattle.word.specs.Word.{sll, with_bit}
 use Rattle.word.proofs.Words.{Words, set_case, set_below}
 use Rattle.layout.specs.Layout.{running, sipirr, sipivect, initrr, eoipending}
-use Rattle.vector_register.specs.declared.Found.{Found}
-use Rattle.vector_register.specs.declared.Found.TheVariants.{Vector, None}
 use Rattle.apic.specs.declared.local.Kind.{Kind}
 use Rattle.apic.specs.declared.local.Kind.TheVariants.{Fixed, Init, Startup}
 use Rattle.apic.specs.declared.active.Ipi.{Ipi}
@@ -89,9 +87,9 @@ module _ (b : List ℕ) where
       port b (p + v / 32) (with_bit (get_or b (p + v / 32) 0) (v % 32) x) (omega arith) (omega arith)
       (λ w. put_below 32 (get_or b (p + v / 32) 0) (v % 32) x (w (p + v / 32)) (omega arith) hx)
 
-  marked_case : (p : ℕ) (f : Found) (x : ℕ) → 72 ≤ p → p + 8 ≤ 112 → is_vector f ≡ true → x < 2 → Kept Passive b (marked b p f x)
+  marked_case : (p : ℕ) (f : Option ℕ) (x : ℕ) → 72 ≤ p → p + 8 ≤ 112 → is_vector f ≡ true → x < 2 → Kept Passive b (marked b p f x)
   marked_case p None x l h hf hx = kept_all Passive b
-  marked_case p (Vector v) x l h hf hx = kept_vector p v x l h (ltb-true v 256 hf) hx
+  marked_case p (Some v) x l h hf hx = kept_vector p v x l h (ltb-true v 256 hf) hx
 
 pub kept_marked : (b c : List ℕ) (p q x : ℕ) → 72 ≤ p → p + 8 ≤ 112 → x < 2 → Kept Passive b (marked b p (lowest c q) x)
 kept_marked b c p q x l h hx = marked_case b p (lowest c q) x l h (least_vector (λ (k : ℕ). bit_at c q k)) hx

@@ -1,16 +1,13 @@
 -- The active steps of a local APIC (11.3), as far as they lie in one core's block.
 -- Assumes nothing.
-use Rattle.std.specs.Prelude.{if◌then◌else◌, Bool, true, not, ◌&&◌, List, ℕ, ◌+◌, ◌/◌, ◌%◌, ◌^◌, get_or, set, eqb}
+use Rattle.std.specs.Prelude.{if◌then◌else◌, Bool, true, not, ◌&&◌, List, ℕ, ◌+◌, ◌/◌, ◌%◌, ◌^◌, get_or, set, eqb, Option, Some, None}
 use Rattle.word.specs.Word.{sll, bit, with_bit}
 use Rattle.layout.specs.Layout.{spr, pc, running, eoipending, sipirr, sipivect, initrr, eca, mode}
-use Rattle.vector_register.specs.declared.Found.{Found}
 use Rattle.apic.specs.declared.local.Kind.{Kind}
 use Rattle.apic.specs.declared.local.Kind.TheVariants.{Fixed, Init, Startup}
 use Rattle.apic.specs.declared.active.Target.{Target}
 use Rattle.apic.specs.declared.active.Target.TheVariants.{Id, Own, All, AllButOwn}
 use Rattle.apic.specs.declared.active.Ipi.{Ipi}
-use Rattle.apic.specs.declared.active.Sending.{Sending}
-use Rattle.apic.specs.declared.active.Sending.TheVariants.{Send, Refused}
 use Rattle.vector_register.specs.Vectors.{with_vector, lowest}
 use Rattle.apic.specs.LocalApic.{icr, id_of, received}
 
@@ -28,22 +25,22 @@ abbrev pub ipi_of : Kind → ℕ → ℕ → Ipi
 ipi_of k low high = record { kind = k; target = target_of low; vect = low % 2 ^ 8; dest = high / 2 ^ 24 }
 
 -- ICR.dm: bits 10 to 8
-abbrev pub by_mode : ℕ → ℕ → Sending
+abbrev pub by_mode : ℕ → ℕ → Option Ipi
 by_mode low high =
-    if eqb (low / 2 ^ 8 % 8) 0b000 then Send (ipi_of Fixed low high) else
-    if eqb (low / 2 ^ 8 % 8) 0b101 then Send (ipi_of Init low high) else
-    if eqb (low / 2 ^ 8 % 8) 0b110 then Send (ipi_of Startup low high) else
-    Refused
+    if eqb (low / 2 ^ 8 % 8) 0b000 then Some (ipi_of Fixed low high) else
+    if eqb (low / 2 ^ 8 % 8) 0b101 then Some (ipi_of Init low high) else
+    if eqb (low / 2 ^ 8 % 8) 0b110 then Some (ipi_of Startup low high) else
+    None
 
 -- ICR.ds: bit 12; ICR.destmode: bit 11
-abbrev pub sending_of : ℕ → ℕ → Sending
+abbrev pub sending_of : ℕ → ℕ → Option Ipi
 sending_of low high =
-    if eqb (bit low 12) 0 then Refused else
-    if eqb (bit low 11) 0 then Refused else
+    if eqb (bit low 12) 0 then None else
+    if eqb (bit low 11) 0 then None else
     by_mode low high
 
 -- what the core's local APIC has to send
-unfoldable pub sending : List ℕ → Sending
+unfoldable pub sending : List ℕ → Option Ipi
 sending b = sending_of (get_or b icr 0) (get_or b (icr + 1) 0)
 
 -- the sender afterwards: ICR.ds = 0
@@ -64,7 +61,7 @@ received_by m own b = if aimed m.target own (eqb (id_of b) m.dest) then received
 -- ---- apic-sendEOI
 
 -- the vector of the message that is to be sent
-abbrev pub pending_eoi : List ℕ → Found
+abbrev pub pending_eoi : List ℕ → Option ℕ
 pending_eoi b = lowest b eoipending
 
 -- the sender afterwards

@@ -1,4 +1,5 @@
--- What the starred figure of the local APIC finds: ISR holds vectors 5 and 9, and an EOI clears 5. The crate starred has its row.
+-- What the starred figure of the local APIC finds: ISR holds vectors 5 and 9, and an EOI clears 5. The crate starred
+-- has its row.
 -- Assumes nothing.
 use Rattle.std.specs.Prelude.{List, ℕ, ◌+◌, ◌^◌, get_or, set, replicate}
 use Rattle.apic.specs.LocalApic.{isr, port_written}

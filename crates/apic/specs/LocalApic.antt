@@ -1,8 +1,7 @@
 -- The local APIC of a core, on the words of the core's block (section 9).
 -- Assumes nothing.
-use Rattle.std.specs.Prelude.{if◌then◌else◌, List, ℕ, ◌+◌, ◌/◌, ◌%◌, ◌^◌, get_or, set, eqb}
+use Rattle.std.specs.Prelude.{if◌then◌else◌, List, ℕ, ◌+◌, ◌/◌, ◌%◌, ◌^◌, get_or, set, eqb, Option}
 use Rattle.layout.specs.Layout.{ports, eoipending, sipirr, sipivect, initrr}
-use Rattle.vector_register.specs.declared.Found.{Found}
 use Rattle.apic.specs.declared.local.Kind.{Kind}
 use Rattle.apic.specs.declared.local.Kind.TheVariants.{Fixed, Init, Startup}
 use Rattle.vector_register.specs.Vectors.{bit_at, with_vector, least, lowest, marked, some_up_to}
@@ -38,7 +37,7 @@ abbrev pub eev : List ℕ → ℕ → ℕ
 eev b j = if some_up_to (λ (k : ℕ). bit_at b isr k) j then 0 else bit_at b irr j
 
 -- min { j | eev[j] = 1 }: whether there is an external event, and which (definition 54)
-unfoldable pub event : List ℕ → Found
+unfoldable pub event : List ℕ → Option ℕ
 event b = least (λ (j : ℕ). eev b j) 256 0
 
 -- ---- 9.2: the passive steps

@@ -4,10 +4,9 @@ ghost use Rattle.apic.specs.Active as s;
 
 use super::local;
 use super::local::Kind;
-use vector_register::Found;
 
 // Which local APICs an interrupt is for.
-#[derive(Clone, Copy)]
+#[derive(Clone, Copy, Debug, PartialEq, Eq)]
 pub enum Target {
     Id,
     Own,
@@ -16,76 +15,57 @@ pub enum Target {
 }
 
 // An inter-processor interrupt.
-#[derive(Clone, Copy)]
+#[derive(Clone, Copy, Debug, PartialEq, Eq)]
 pub struct Ipi {
     pub kind: Kind,
     pub target: Target,
-    pub vect: u32,
+    pub vect: u8,
     pub dest: u32,
-}
-
-#[derive(Clone, Copy)]
-pub enum Sending {
-    Send(Ipi),
-    Refused,
 }
 
 fn target_of(low: u32) -> Target
     ensures { result ≡ s.target_of low }
 {
-    let shorthand = (low >> 18) % 4;
-    if shorthand == 0 {
-        return Target::Id;
+    match (low >> 18) % 4 {
+        0 => Target::Id,
+        1 => Target::Own,
+        2 => Target::All,
+        _ => Target::AllButOwn,
     }
-    if shorthand == 1 {
-        return Target::Own;
-    }
-    if shorthand == 2 {
-        return Target::All;
-    }
-    Target::AllButOwn
 }
 
 fn ipi_of(kind: Kind, low: u32, high: u32) -> Ipi
     ensures { result ≡ s.ipi_of kind low high }
 {
-    let target = target_of(low);
     Ipi {
         kind,
-        target,
-        vect: low % 256,
+        target: target_of(low),
+        vect: (low % 256) as u8,
         dest: high >> 24,
     }
 }
 
-fn by_mode(low: u32, high: u32) -> Sending
+fn by_mode(low: u32, high: u32) -> Option<Ipi>
     ensures { result ≡ s.by_mode low high }
 {
-    let mode = (low >> 8) % 8;
-    if mode == 0b000 {
-        return Sending::Send(ipi_of(Kind::Fixed, low, high));
-    }
-    if mode == 0b101 {
-        return Sending::Send(ipi_of(Kind::Init, low, high));
-    }
-    if mode == 0b110 {
-        return Sending::Send(ipi_of(Kind::Startup, low, high));
-    }
-    Sending::Refused
+    let kind = match (low >> 8) % 8 {
+        0b000 => Kind::Fixed,
+        0b101 => Kind::Init,
+        0b110 => Kind::Startup,
+        _ => return None,
+    };
+    Some(ipi_of(kind, low, high))
 }
 
 // What the core's local APIC has to send.
-pub fn to_send(b: &[u32]) -> Sending
+pub fn to_send(b: &[u32]) -> Option<Ipi>
     requires { length b.now ≡ 256 }
     ensures { result ≡ s.sending b.now }
 {
     let low = b[local::ICR];
     let high = b[local::ICR + 1];
-    if (low >> 12) % 2 == 0 {
-        return Sending::Refused;
-    }
-    if (low >> 11) % 2 == 0 {
-        return Sending::Refused;
+    if (low >> 12) % 2 == 0 || (low >> 11) % 2 == 0 {
+        return None;
     }
     by_mode(low, high)
 }
@@ -111,19 +91,16 @@ fn aimed(t: Target, own: bool, same: bool) -> bool
 
 // A core's block after an interrupt has gone over the bus.
 pub fn receive(b: &mut [u32], own: bool, m: Ipi)
-    requires { (length b.old ≡ 256) × (m.vect < 256) }
+    requires { length b.old ≡ 256 }
     ensures { b.new ≡ s.received_by m own b.old }
 {
-    let same = local::id(b) == m.dest;
-    let t = m.target;
-    if aimed(t, own, same) {
-        let k = m.kind;
-        local::receive(b, k, m.vect);
+    if aimed(m.target, own, local::id(b) == m.dest) {
+        local::receive(b, m.kind, m.vect);
     }
 }
 
 // The vector whose EOI message is to be sent.
-pub fn pending_eoi(b: &[u32]) -> Found
+pub fn pending_eoi(b: &[u32]) -> Option<u8>
     requires { length b.now ≡ 256 }
     ensures { result ≡ s.pending_eoi b.now }
 {
@@ -131,8 +108,8 @@ pub fn pending_eoi(b: &[u32]) -> Found
 }
 
 // The sender afterwards.
-pub fn eoi_sent(b: &mut [u32], v: u32)
-    requires { (length b.old ≡ 256) × (v < 256) }
+pub fn eoi_sent(b: &mut [u32], v: u8)
+    requires { length b.old ≡ 256 }
     ensures { b.new ≡ s.eoi_sent b.old v }
 {
     vector_register::put_vector(b, layout::EOIPENDING, v, 0);

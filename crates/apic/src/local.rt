@@ -2,8 +2,6 @@
 ghost use Rattle.std.specs.Prelude.{◌≡◌, ◌<◌, length};
 ghost use Rattle.apic.specs.LocalApic as s;
 
-use vector_register::Found;
-
 pub const ICR: usize = 73;
 
 pub const EOI: usize = 75;
@@ -13,7 +11,7 @@ pub const ISR: usize = 76;
 pub const IRR: usize = 84;
 
 // An interrupt that is received.
-#[derive(Clone, Copy)]
+#[derive(Clone, Copy, Debug, PartialEq, Eq)]
 pub enum Kind {
     Fixed,
     Init,
@@ -28,32 +26,22 @@ pub fn id(b: &[u32]) -> u32
 }
 
 // Definition 66: the external event that the core sees.
-pub fn event(b: &[u32]) -> Found
+pub fn event(b: &[u32]) -> Option<u8>
     requires { length b.now ≡ 256 }
     ensures { result ≡ s.event b.now }
 {
-    // Most often nothing is asked for, or nothing is in service. To see that before a search is for speed alone (docs/PERFORMANCE.md).
+    // Most often nothing is asked for, or nothing is in service. To see that before a search is for speed alone
+    // (docs/PERFORMANCE.md).
     if !vector_register::any(b, IRR) {
-        return Found::None;
+        return None;
     }
-    let asked = vector_register::lowest(b, IRR);
-    match asked {
-        Found::Vector(v) => {
-            if !vector_register::any(b, ISR) {
-                return Found::Vector(v);
-            }
-            let served = vector_register::lowest(b, ISR);
-            match served {
-                Found::Vector(k) => {
-                    if v < k {
-                        return Found::Vector(v);
-                    }
-                    Found::None
-                }
-                Found::None => Found::Vector(v),
-            }
-        }
-        Found::None => Found::None,
+    let asked = vector_register::lowest(b, IRR)?;
+    if !vector_register::any(b, ISR) {
+        return Some(asked);
+    }
+    match vector_register::lowest(b, ISR) {
+        Some(served) if served <= asked => None,
+        _ => Some(asked),
     }
 }
 
@@ -74,19 +62,18 @@ pub fn write(b: &mut [u32], a: usize, v: u32)
 {
     if a == 12 {
         end(b, v);
-        return;
+    } else {
+        b[layout::PORTS + a / 4] = v;
     }
-    let at = layout::PORTS + a / 4;
-    b[at] = v;
 }
 
-fn startup(b: &mut [u32], v: u32)
+fn startup(b: &mut [u32], v: u8)
     requires { length b.old ≡ 256 }
     ensures { b.new ≡ s.startup b.old v }
 {
     if b[layout::SIPIRR] == 0 {
         b[layout::SIPIRR] = 1;
-        b[layout::SIPIVECT] = v;
+        b[layout::SIPIVECT] = u32::from(v);
     }
 }
 
@@ -99,8 +86,8 @@ fn init(b: &mut [u32])
     }
 }
 
-pub fn receive(b: &mut [u32], k: Kind, v: u32)
-    requires { (length b.old ≡ 256) × (v < 256) }
+pub fn receive(b: &mut [u32], k: Kind, v: u8)
+    requires { length b.old ≡ 256 }
     ensures { b.new ≡ s.received b.old k v }
 {
     match k {

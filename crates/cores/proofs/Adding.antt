@@ -1,5 +1,7 @@
 -- A walk that is added, and a store's bytes.
 -- Assumes nothing.
+use Rattle.std.specs.Prelude.{Ok, Err}
+use Rattle.refusals.specs.declared.Refusal.TheVariants.{WalksFull, NoFreeRecord}
 use mathlib.Core.Path.{◌≡◌, refl, sym, ◌∙◌}
 use mathlib.Core.Logic.{⊎_elim}
 use mathlib.Core.Bool.{Bool, true, false, ◌&&◌, ◌||◌}
@@ -20,28 +22,28 @@ use Rattle.store_buffer.proofs.Access.{aligned_word}
 use Rattle.cores.specs.declared.BufferChange.{BufferChange}
 use Rattle.cores.specs.declared.WalkChange.TheVariants.{Add}
 use Rattle.cores.specs.declared.Write.{Write}
-use Rattle.cores.specs.Plans.{refused, done}
+use Rattle.cores.specs.Plans.{done}
 use Rattle.cores.specs.TlbSteps.{adding}
 
 module _ (tlb : List Walk) (free : Bool) (w : Walk) where
-  pub adding_held : among w tlb ≡ true → done BufferChange.Nothing (Add w) Write.Nothing ≡ adding tlb free w
+  pub adding_held : among w tlb ≡ true → Ok (done BufferChange.Nothing (Add w) Write.Nothing) ≡ adding tlb free w
   unfolding adding
   adding_held a = rw (a) refl
 
-  pub adding_full : among w tlb ≡ false → leb 23 (length tlb) ≡ true → refused 9 ≡ adding tlb free w
+  pub adding_full : among w tlb ≡ false → leb 23 (length tlb) ≡ true → Err WalksFull ≡ adding tlb free w
   unfolding adding
   adding_full a l = rw (a, l) refl
 
-  pub adding_none : among w tlb ≡ false → leb 23 (length tlb) ≡ false → free ≡ false → refused 10 ≡ adding tlb free w
+  pub adding_none : among w tlb ≡ false → leb 23 (length tlb) ≡ false → free ≡ false → Err NoFreeRecord ≡ adding tlb free w
   unfolding adding
   adding_none a l f = rw (a, l, f) refl
 
-  room : (a : Bool) → among w tlb ≡ a → leb 23 (length tlb) ≡ false → free ≡ true → done BufferChange.Nothing (Add w) Write.Nothing ≡ adding tlb free w
+  room : (a : Bool) → among w tlb ≡ a → leb 23 (length tlb) ≡ false → free ≡ true → Ok (done BufferChange.Nothing (Add w) Write.Nothing) ≡ adding tlb free w
   unfolding adding
   room true a l f = adding_held a
   room false a l f = rw (a, l, f) refl
 
-  pub adding_room : leb 23 (length tlb) ≡ false → free ≡ true → done BufferChange.Nothing (Add w) Write.Nothing ≡ adding tlb free w
+  pub adding_room : leb 23 (length tlb) ≡ false → free ≡ true → Ok (done BufferChange.Nothing (Add w) Write.Nothing) ≡ adding tlb free w
   adding_room = room (among w tlb) refl
 
 -- ---- the bytes of a store

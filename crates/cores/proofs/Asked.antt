@@ -1,10 +1,12 @@
--- Laws of the scheme of refusals: what a decision needs of what follows a guard, it needs only where the guard does not fail.
+-- Laws of the scheme of refusals: what a decision needs of what follows a guard, it needs only where the guard does not
+-- fail.
 -- Assumes nothing.
-use Rattle.std.specs.Prelude.{if◌then◌else◌}
+use Rattle.std.specs.Prelude.{if◌then◌else◌, Result, Err}
+use Rattle.refusals.specs.declared.Refusal.{Refusal}
+use Rattle.refusals.specs.declared.Refusal.TheVariants.{NoNextState, ByteNowhere}
 use mathlib.Core.Path.{◌≡◌, refl, sym, ap, ap₂, ◌∙◌}
 use mathlib.Core.Bool.{Bool, true, false, ◌||◌, false≢true}
 use mathlib.Core.List.{List, [], ◌∷◌, ◌++◌}
-use Prim.Native.Nat.{ℕ}
 use Rattle.word.proofs.Truth.{tested, clash}
 use Rattle.cores.specs.Guards.{Guard, test, is_failure, is_undecided, any_of, Judged, yield, ask, settle}
 
@@ -68,13 +70,13 @@ module _ {A : Type 0} where
   same_if true i j k l f g = f refl
   same_if false i j k l f g = g refl
 
-  pub settle_same : (r : ℕ → A) (j k : Judged A) → Same j k → settle r j ≡ settle r k
-  unfolding settle
-  settle_same r j k s =
-      tested (any_of is_failure j.guards)
-      (λ e. let f : any_of is_failure k.guards ≡ true = sym s.breaks ∙ e in rw (e, f))
-      (λ e. ap (λ (t : Bool). if t then r 6 else if any_of is_undecided j.guards then r 7 else j.effect) s.breaks
-      ∙ ap₂ (λ (u : Bool) (o : A). if any_of is_failure k.guards then r 6 else if u then r 7 else o) (s.opens e) (s.effects e))
+pub settle_same : {A : Type 0} (j k : Judged (Result A Refusal)) → Same j k → settle j ≡ settle k
+unfolding settle
+settle_same {A} j k s =
+    tested (any_of is_failure j.guards)
+    (λ e. let f : any_of is_failure k.guards ≡ true = sym s.breaks ∙ e in rw (e, f))
+    (λ e. ap (λ (t : Bool). if t then Err NoNextState else if any_of is_undecided j.guards then Err ByteNowhere else j.effect) s.breaks
+    ∙ ap₂ (λ (u : Bool) (o : Result A Refusal). if any_of is_failure k.guards then Err NoNextState else if u then Err ByteNowhere else o) (s.opens e) (s.effects e))
 
 -- ---- what holds of the outcome
 
@@ -101,8 +103,8 @@ module _ {A : Type 0} (P : A → Type 0) where
   judges_if true j k f g = f refl
   judges_if false j k f g = g refl
 
-  pub judges_settle : (r : ℕ → A) (j : Judged A) → ((n : ℕ) → P (r n)) → Judges P j → P (settle r j)
-  unfolding settle
-  judges_settle r j p f =
-      tested (any_of is_failure j.guards) (λ e. rw e (p 6))
-      (λ e. rw e (tested (any_of is_undecided j.guards) (λ u. rw u (p 7)) (λ u. rw u (f.met e))))
+pub judges_settle : {A : Type 0} (P : Result A Refusal → Type 0) (j : Judged (Result A Refusal)) → ((r : Refusal) → P (Err r)) → Judges P j → P (settle j)
+unfolding settle
+judges_settle P j p f =
+    tested (any_of is_failure j.guards) (λ e. rw e (p NoNextState))
+    (λ e. rw e (tested (any_of is_undecided j.guards) (λ u. rw u (p ByteNowhere)) (λ u. rw u (f.met e))))

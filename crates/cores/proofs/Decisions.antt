@@ -1,7 +1,9 @@
 -- Every plan that a step decides on a sound block may be done.
 -- Assumes nothing.
-use Rattle.std.specs.Prelude.{if◌then◌else◌}
-use mathlib.Core.Path.{◌≡◌, refl, sym, ◌∙◌, ap}
+use Rattle.std.specs.Prelude.{if◌then◌else◌, Option, Some, None, Result, Ok, Err, IfOk}
+use Rattle.refusals.specs.declared.Refusal.{Refusal}
+use Rattle.refusals.specs.declared.Refusal.TheVariants.{NoNextState, WalksFull, NoFreeRecord}
+use mathlib.Core.Path.{◌≡◌, refl, ◌∙◌, ap}
 use mathlib.Core.Bool.{Bool, true, false, not, ◌&&◌, ◌||◌}
 use mathlib.Core.List.{List, [], ◌∷◌}
 use Prim.Native.Nat.{ℕ, ◌+◌, ◌%◌, ◌^◌, ◌<◌, ◌≤◌}
@@ -10,7 +12,6 @@ use lib.Dec.{eqb, leb, ltb}
 use native.Mathlib.Omega.{arith}
 use borrow.Author.Tests.{lt-ltb, le-leb, leb-false, eq-eqb}
 use Rattle.word.proofs.Bytes.{Bytes}
-use Rattle.word.proofs.Tests.{true_false}
 use Rattle.word.proofs.Words.{Words}
 use Rattle.word.proofs.Truth.{and_left, and_right, and_both}
 use Rattle.layout.specs.Layout.{spr, pto}
@@ -21,9 +22,7 @@ use Rattle.records.specs.Contents.{local_port, io_port, store_sound, walk_sound}
 use Rattle.records.proofs.Bounds.{held_first, value_lt}
 use Rattle.tables.specs.Sound.{sound_block}
 use Rattle.tables.proofs.Steps.{block_stores, block_walks}
-use Rattle.tlb.specs.declared.Entry.{Entry}
-use Rattle.tlb.specs.declared.Entry.TheVariants.{Word, Missing}
-use Rattle.tlb.specs.declared.Decision.TheVariants.{Refused, Adds, Marks}
+use Rattle.tlb.specs.declared.Change.TheVariants.{Adds, Marks}
 use Rattle.tlb.specs.Walks.{pte_a, pte_p, ptea, pte, winit, wext, wext_fault, set_d}
 use Rattle.tables.specs.Views.{user_mode, runs, asid_of}
 use Rattle.tlb.specs.Steps.{origin_of, extendable, tlb_create, tlb_extend, tlb_accessed, on_extend, on_accessed, create_on, extend_on, accessed_on}
@@ -33,8 +32,6 @@ use Rattle.store_buffer.specs.declared.Place.TheVariants as to
 use Rattle.store_buffer.specs.Leaving.{word_only, place_of}
 use Rattle.store_buffer.specs.System.{sized, aligned, apicadr, ioapicadr}
 use Rattle.ioapic.specs.IoApic.{writes}
-use Rattle.steps.specs.declared.Answer.{Answer}
-use Rattle.steps.specs.declared.Answer.TheVariants as answer
 use Rattle.cores.specs.declared.BufferChange.{BufferChange}
 use Rattle.cores.specs.declared.BufferChange.TheVariants.{Take}
 use Rattle.cores.specs.declared.WalkChange.{WalkChange}
@@ -42,7 +39,7 @@ use Rattle.cores.specs.declared.WalkChange.TheVariants.{Add}
 use Rattle.cores.specs.declared.Write.{Write}
 use Rattle.cores.specs.declared.Write.TheVariants.{Memory, LocalPort, IoPort}
 use Rattle.cores.specs.declared.Plan.{Plan}
-use Rattle.cores.specs.Plans.{refused, done}
+use Rattle.cores.specs.Plans.{done}
 use Rattle.cores.specs.Core.{is_free}
 use Rattle.cores.specs.TlbSteps.{adding, planned}
 use Rattle.cores.specs.BufferStep.{leaves_to, on_oldest, buffer_step}
@@ -57,14 +54,17 @@ aligned_write (Memory a d v) = aligned a d
 aligned_write (LocalPort a v) = true
 aligned_write (IoPort a v) = true
 
--- a plan that may be done on the block b beside a memory of n bytes, that does nothing where it is refused, and brings words where b has words
-pub record MayBeDone (n : ℕ) (b : List ℕ) (p : Plan) : Type 0 where
+-- a plan that may be done on the block b beside a memory of n bytes, and brings words where b has words
+pub record PlanMayBeDone (n : ℕ) (b : List ℕ) (p : Plan) : Type 0 where
   pub is_ready : ready p b ≡ true
   pub is_sound : plan_sound n p ≡ true
   pub is_fitting : fits p.write n ≡ true
   pub is_aligned : aligned_write p.write ≡ true
-  pub is_still : (k : ℕ) → p.answer ≡ answer.Refused k → p ≡ refused k
   pub brings_words : Words b → PlanWords p
+
+-- what is decided: such a plan, or a refusal
+abbrev pub MayBeDone : ℕ → List ℕ → Result Plan Refusal → Type 0
+MayBeDone n b r = IfOk r (PlanMayBeDone n b)
 
 -- the same of a plan's changes, one by one
 pub record AllowedChanges (n : ℕ) (b : List ℕ) (c : BufferChange) (ws : WalkChange) (x : Write) : Type 0 where
@@ -78,28 +78,25 @@ pub record AllowedChanges (n : ℕ) (b : List ℕ) (c : BufferChange) (ws : Walk
   pub walk_words : Words b → AddWords ws
   pub port_words : PortWords x
 
--- a plan with such changes, and with none if it is refused
-pub record Doable (n : ℕ) (b : List ℕ) (p : Plan) : Type 0 where
+-- a plan with such changes
+pub record PlanDoable (n : ℕ) (b : List ℕ) (p : Plan) : Type 0 where
   pub changes : AllowedChanges n b p.buffer p.walks p.write
   pub core_words_lem : CoreWords p.core
-  pub still : (k : ℕ) → p.answer ≡ answer.Refused k → p ≡ refused k
 
-pub may_be_done : {n : ℕ} {b : List ℕ} {p : Plan} → Doable n b p → MayBeDone n b p
+abbrev pub Doable : ℕ → List ℕ → Result Plan Refusal → Type 0
+Doable n b r = IfOk r (PlanDoable n b)
+
+pub may_be_done : (n : ℕ) (b : List ℕ) (r : Result Plan Refusal) → Doable n b r → MayBeDone n b r
 unfolding ready plan_sound
-may_be_done {n} {b} {p} D =
+may_be_done n b (Err r) D = tt
+may_be_done n b (Ok p) D =
     record {
       is_ready = and_both (buffer_ready p.buffer b) _ D.changes.buffer_ready_lem (and_both (walks_ready p.walks b) _ D.changes.walks_ready_lem D.changes.port_ready_lem);
       is_sound = and_both (store_brought n p.buffer) _ D.changes.store_sound_lem D.changes.walk_sound_lem;
       is_fitting = D.changes.fitting;
       is_aligned = D.changes.aligning;
-      is_still = D.still;
       brings_words = λ w. record { in_core = D.core_words_lem; in_walks = D.changes.walk_words w; in_port = D.changes.port_words };
     }
-
-abbrev is_accepted : Answer → Bool
-is_accepted answer.Done = true
-is_accepted (answer.Interrupt l) = true
-is_accepted (answer.Refused k) = false
 
 module _ (n : ℕ) (b : List ℕ) where
   -- nothing is changed
@@ -108,12 +105,8 @@ module _ (n : ℕ) (b : List ℕ) where
   unchanged =
       record { buffer_ready_lem = refl; store_sound_lem = refl; walks_ready_lem = refl; walk_sound_lem = refl; port_ready_lem = refl; fitting = refl; aligning = refl; walk_words = λ w. tt; port_words = tt }
 
-  pub refused_doable : (k : ℕ) → Doable n b (refused k)
-  refused_doable k = record { changes = unchanged; core_words_lem = tt; still = λ j e. let q : k ≡ j = cc in ap refused q }
-
-  -- one that is not refused
-  pub accepted_doable : {p : Plan} → is_accepted p.answer ≡ true → CoreWords p.core → AllowedChanges n b p.buffer p.walks p.write → Doable n b p
-  accepted_doable a c C = record { changes = C; core_words_lem = c; still = λ k e. absurd (true_false (sym a ∙ ap is_accepted e)) }
+  pub plan_doable : {p : Plan} → CoreWords p.core → AllowedChanges n b p.buffer p.walks p.write → PlanDoable n b p
+  plan_doable c C = record { changes = C; core_words_lem = c }
 
   -- a change of the walks alone
   pub walks_change : (ws : WalkChange) → walks_ready ws b ≡ true → walk_brought ws ≡ true → (Words b → AddWords ws) → AllowedChanges n b BufferChange.Nothing ws Write.Nothing
@@ -136,35 +129,35 @@ module _ (b m : List ℕ) where
   adding_doable w s v = go (among w (walks b)) (leb 23 (length (walks b))) (is_free b) refl refl
     where
       go : (h f r : Bool) → among w (walks b) ≡ h → leb 23 (length (walks b)) ≡ f →
-          Doable (length m) b (if not h && f then refused 9 else if not h && not r then refused 10 else done BufferChange.Nothing (Add w) Write.Nothing)
-      go true f r p q = accepted_doable (length m) b refl tt (walks_change (length m) b (Add w) (ap (λ t. t || ltb (length (walks b)) 23) p) s v)
-      go false true r p q = refused_doable (length m) b 9
+          Doable (length m) b (if not h && f then Err WalksFull else if not h && not r then Err NoFreeRecord else Ok (done BufferChange.Nothing (Add w) Write.Nothing))
+      go true f r p q = plan_doable (length m) b tt (walks_change (length m) b (Add w) (ap (λ t. t || ltb (length (walks b)) 23) p) s v)
+      go false true r p q = tt
       go false false true p q =
-          accepted_doable (length m) b refl tt (walks_change (length m) b (Add w) (ap (λ t. t || ltb (length (walks b)) 23) p ∙ lt-ltb (length (walks b)) 23 (leb-false 23 (length (walks b)) q)) s v)
-      go false false false p q = refused_doable (length m) b 10
+          plan_doable (length m) b tt (walks_change (length m) b (Add w) (ap (λ t. t || ltb (length (walks b)) 23) p ∙ lt-ltb (length (walks b)) 23 (leb-false 23 (length (walks b)) q)) s v)
+      go false false false p q = tt
 
   create_doable : (va : ℕ) → va < 2 ^ 20 → get_or b (spr + pto) 0 < 2 ^ 32 → Doable (length m) b (planned (walks b) (is_free b) (create_on b va))
   unfolding tlb_create planned
   create_doable va l h = go (user_mode b && runs b)
     where
-      go : (t : Bool) → Doable (length m) b (planned (walks b) (is_free b) (if t then Adds (winit va (origin_of b) (asid_of b)) else Refused 6))
+      go : (t : Bool) → Doable (length m) b (planned (walks b) (is_free b) (if t then Ok (Adds (winit va (origin_of b) (asid_of b))) else Err NoNextState))
       go true = adding_doable (winit va (origin_of b) (asid_of b)) (winit_sound va (origin_of b) (asid_of b) (omega arith) (omega arith)) (λ _. winit_first va (origin_of b) (asid_of b) l (omega arith))
-      go false = refused_doable (length m) b 6
+      go false = tt
 
   -- by the entry that the walk names, if it is in memory
   extend_doable : (w : Walk) → all walk_sound (walks b) ≡ true → Bytes m → Doable (length m) b (planned (walks b) (is_free b) (extend_on b m w))
   unfolding tlb_extend on_extend planned
   extend_doable w s h = go (runs b && extendable (asid_of b) (walks b) w) refl (pte m w) refl
     where
-      added : (v : ℕ) (t : Bool) → walk_sound (wext w v) ≡ true → (Words b → (wext w v).first < 2 ^ 32) → Doable (length m) b (planned (walks b) (is_free b) (if t then Adds (wext w v) else Refused 6))
+      added : (v : ℕ) (t : Bool) → walk_sound (wext w v) ≡ true → (Words b → (wext w v).first < 2 ^ 32) → Doable (length m) b (planned (walks b) (is_free b) (if t then Ok (Adds (wext w v)) else Err NoNextState))
       added v true f g = adding_doable (wext w v) f g
-      added v false f g = refused_doable (length m) b 6
+      added v false f g = tt
 
-      go : (t : Bool) → (runs b && extendable (asid_of b) (walks b) w) ≡ t → (e : Entry) → pte m w ≡ e →
-          Doable (length m) b (planned (walks b) (is_free b) (if t then on_extend w e else Refused 6))
-      go false g e p = refused_doable (length m) b 6
-      go true g Missing p = refused_doable (length m) b 7
-      go true g (Word v) p =
+      go : (t : Bool) → (runs b && extendable (asid_of b) (walks b) w) ≡ t → (e : Option ℕ) → pte m w ≡ e →
+          Doable (length m) b (planned (walks b) (is_free b) (if t then on_extend w e else Err NoNextState))
+      go false g e p = tt
+      go true g None p = tt
+      go true g (Some v) p =
           let k : among w (walks b) ≡ true = is_held (runs b) (asid_of b) (walks b) w g in
           added v (pte_a v && not (wext_fault v 0)) (wext_sound w v (held_sound w (walks b) k s) (entry_lt m (ptea w) h p)) (λ ws. wext_first w v (held_first b ws w k))
 
@@ -172,46 +165,46 @@ module _ (b m : List ℕ) where
   unfolding tlb_accessed on_accessed planned
   accessed_doable w = go (user_mode b && extendable (asid_of b) (walks b) w) (pte m w) refl
     where
-      marked : (v : ℕ) (t : Bool) → ptea w + 4 ≤ length m → Doable (length m) b (planned (walks b) (is_free b) (if t then Marks (ptea w) (set_d v) else Refused 6))
-      marked v true h = accepted_doable (length m) b refl tt (word_change (length m) b (ptea w) (set_d v) h (ptea_aligned w))
-      marked v false h = refused_doable (length m) b 6
+      marked : (v : ℕ) (t : Bool) → ptea w + 4 ≤ length m → Doable (length m) b (planned (walks b) (is_free b) (if t then Ok (Marks (ptea w) (set_d v)) else Err NoNextState))
+      marked v true h = plan_doable (length m) b tt (word_change (length m) b (ptea w) (set_d v) h (ptea_aligned w))
+      marked v false h = tt
 
-      go : (t : Bool) (e : Entry) → pte m w ≡ e → Doable (length m) b (planned (walks b) (is_free b) (if t then on_accessed w e else Refused 6))
-      go false e p = refused_doable (length m) b 6
-      go true Missing p = refused_doable (length m) b 7
-      go true (Word v) p = marked v (pte_p v) (entry_word m (ptea w) p).1
+      go : (t : Bool) (e : Option ℕ) → pte m w ≡ e → Doable (length m) b (planned (walks b) (is_free b) (if t then on_accessed w e else Err NoNextState))
+      go false e p = tt
+      go true None p = tt
+      go true (Some v) p = marked v (pte_p v) (entry_word m (ptea w) p).1
 
   -- each of them, on a sound block whose words and memory whose bytes are such
   pub create_plan : (va : ℕ) → va < 2 ^ 20 → get_or b (spr + pto) 0 < 2 ^ 32 → MayBeDone (length m) b (planned (walks b) (is_free b) (create_on b va))
-  create_plan va l h = may_be_done (create_doable va l h)
+  create_plan va l h = may_be_done _ _ _ (create_doable va l h)
 
   pub extend_plan : (w : Walk) → sound_block (length m) b ≡ true → Bytes m → MayBeDone (length m) b (planned (walks b) (is_free b) (extend_on b m w))
-  extend_plan w e h = may_be_done (extend_doable w (block_walks (length m) b e) h)
+  extend_plan w e h = may_be_done _ _ _ (extend_doable w (block_walks (length m) b e) h)
 
   pub accessed_plan : (w : Walk) → MayBeDone (length m) b (planned (walks b) (is_free b) (accessed_on b m w))
-  accessed_plan w = may_be_done (accessed_doable w)
+  accessed_plan w = may_be_done _ _ _ (accessed_doable w)
 
 -- ---- the store buffer
 
 module _ (n : ℕ) (b : List ℕ) (s : Store) (some : 0 < length (stores b)) (fine : store_sound n s ≡ true) where
   -- the oldest store leaves
-  leaves : (x : Write) → port_ready x ≡ true → fits x n ≡ true → aligned_write x ≡ true → PortWords x → Doable n b (done Take WalkChange.Nothing x)
+  leaves : (x : Write) → port_ready x ≡ true → fits x n ≡ true → aligned_write x ≡ true → PortWords x → PlanDoable n b (done Take WalkChange.Nothing x)
   unfolding buffer_ready walks_ready
   leaves x p f a w =
-      accepted_doable n b refl tt
+      plan_doable n b tt
       (record { buffer_ready_lem = lt-ltb 0 (length (stores b)) some; store_sound_lem = refl; walks_ready_lem = refl; walk_sound_lem = refl; port_ready_lem = p; fitting = f; aligning = a; walk_words = λ ws. tt; port_words = w })
 
   leaves_local : (t : Bool) → Doable n b (leaves_to s (if t then to.LocalPort (apicadr s.address) else to.Narrow))
   unfolding leaves_to port_ready fits aligned_write
   leaves_local true = leaves (LocalPort (apicadr s.address) s.value) (lt-ltb (apicadr s.address) 128 (omega arith)) refl refl (value_lt n s fine)
-  leaves_local false = refused_doable n b 6
+  leaves_local false = tt
 
   leaves_io : (t w : Bool) → writes (ioapicadr s.address) s.value ≡ w → Doable n b (leaves_to s (if t then to.IoPort (ioapicadr s.address) else to.Narrow))
   unfolding leaves_to port_ready fits aligned_write
   leaves_io true true e =
       rw e (leaves (IoPort (ioapicadr s.address) s.value) refl e refl (value_lt n s fine))
-  leaves_io true false e = rw e (refused_doable n b 6)
-  leaves_io false w e = refused_doable n b 6
+  leaves_io true false e = rw e (tt)
+  leaves_io false w e = tt
 
   leaves_memory : (t : Bool) → leb (s.address + s.width) n ≡ t → Doable n b (leaves_to s (if t then to.Memory else to.Beyond))
   unfolding leaves_to port_ready fits aligned_write aligned store_sound
@@ -219,7 +212,7 @@ module _ (n : ℕ) (b : List ℕ) (s : Store) (some : 0 < length (stores b)) (fi
       let q = and_left (sized s.width) _ fine in
       let r = and_left (eqb (s.address % s.width) 0) _ (and_right (sized s.width) _ fine) in
       leaves (Memory s.address s.width s.value) refl (and_both (sized s.width) _ q e) (and_both (sized s.width) _ q r) tt
-  leaves_memory false e = refused_doable n b 7
+  leaves_memory false e = tt
 
   leaves_doable : Doable n b (leaves_to s (place_of n s))
   unfolding place_of
@@ -232,8 +225,8 @@ module _ (n : ℕ) (b : List ℕ) (s : Store) (some : 0 < length (stores b)) (fi
 
 oldest_doable : (n : ℕ) (b : List ℕ) (l : List Store) → stores b ≡ l → all (store_sound n) l ≡ true → Doable n b (buffer_step l n)
 unfolding on_oldest all
-oldest_doable n b [] p e = refused_doable n b 6
+oldest_doable n b [] p e = tt
 oldest_doable n b (s ∷ l) p e = leaves_doable n b s (omega (arith, ap length p)) (and_left (store_sound n s) _ e)
 
 pub drain_plan : (n : ℕ) (b : List ℕ) → sound_block n b ≡ true → MayBeDone n b (buffer_step (stores b) n)
-drain_plan n b e = may_be_done (oldest_doable n b (stores b) refl (block_stores n b e))
+drain_plan n b e = may_be_done _ _ _ (oldest_doable n b (stores b) refl (block_stores n b e))

@@ -1,6 +1,8 @@
 -- Every plan that a core's own step decides on a sound block may be done.
 -- Assumes nothing.
-use Rattle.std.specs.Prelude.{if◌then◌else◌}
+use Rattle.std.specs.Prelude.{if◌then◌else◌, Option, Some, None, Result, Ok, Err, IfOk}
+use Rattle.refusals.specs.declared.Refusal.{Refusal}
+use Rattle.refusals.specs.declared.Refusal.TheVariants.{NoNextState, ByteNowhere, StoresFull, NoFreeRecord}
 use mathlib.Core.Path.{◌≡◌, refl, sym, ◌∙◌, ap, subst}
 use mathlib.Core.Bool.{Bool, true, false, not, ◌||◌}
 use mathlib.Core.List.{List}
@@ -28,13 +30,9 @@ use Rattle.records.specs.Contents.{all_there, store_sound}
 use Rattle.tlb.specs.declared.Faulting.{Faulting}
 use Rattle.tlb.specs.declared.Faulting.TheVariants.{Faults, Passes, Undecided}
 use Rattle.tlb.specs.Walks.{walk_ba, base_address, page_key}
-use Rattle.store_buffer.specs.declared.Read.{Read}
-use Rattle.store_buffer.specs.declared.Read.TheVariants.{There, Nowhere}
 use Rattle.store_buffer.specs.declared.Loaded.{Loaded}
-use Rattle.store_buffer.specs.declared.Loaded.TheVariants.{Value, Hazard}
+use Rattle.store_buffer.specs.declared.LoadError.{LoadError}
 use Rattle.store_buffer.specs.System.{memory_byte, join, reads, loaded, sized, aligned}
-use Rattle.vector_register.specs.declared.Found.{Found}
-use Rattle.vector_register.specs.declared.Found.TheVariants.{Vector, None}
 use Rattle.vector_register.specs.Vectors.{is_vector}
 use Rattle.apic.specs.LocalApic.{event, eev}
 use Rattle.vector_register.proofs.Least.{least_vector}
@@ -49,32 +47,32 @@ use Rattle.cores.specs.declared.Write.{Write}
 use Rattle.cores.specs.declared.Write.TheVariants.{Memory}
 use Rattle.cores.specs.declared.Plan.{Plan}
 use Rattle.cores.specs.Guards.{Judged, yield, settle, any_of, is_failure, is_undecided}
-use Rattle.cores.specs.Plans.{refused, interrupted, changed, finished}
+use Rattle.cores.specs.Plans.{interrupted, changed, finished}
 use Rattle.cores.specs.Core.{View, view_of, ports_beside, causes, causes_without, suppressed, stopped, faulted, fault_of, physical, on_load, on_store, exchanged, on_cas, stored_from, performed, dropped_by, plain, without_access, is_access, data_request_of, on_address, on_data, on_access, on_instruction, fetch_request_of, on_word, on_fetch_address, on_fetch, fetch, judged, core_plan, is_event, vector_of}
 use Rattle.cores.specs.inner.Ready.{buffer_ready, walks_ready, port_ready, fits}
 use Rattle.cores.proofs.Accesses.{access_aligned, cas_width}
 use Rattle.cores.proofs.Held.{same_offset}
 use Rattle.cores.proofs.Bounds.{CoreWords}
-use Rattle.cores.proofs.Decisions.{aligned_write, AllowedChanges, Doable, MayBeDone, may_be_done, unchanged, refused_doable, accepted_doable, walks_change, word_change}
+use Rattle.cores.proofs.Decisions.{aligned_write, AllowedChanges, PlanDoable, Doable, MayBeDone, may_be_done, unchanged, plan_doable, walks_change, word_change}
 
--- what holds of both refusals and of the effect holds of what is settled
-pub settled : (P : Plan → Type 0) → ((k : ℕ) → P (refused k)) → (j : Judged Plan) → P j.effect → P (settle refused j)
+-- what holds of the effect, if it is a plan, holds of what is settled
+pub settled : (P : Plan → Type 0) (j : Judged (Result Plan Refusal)) → IfOk j.effect P → IfOk (settle j) P
 unfolding settle
-settled P f j e = go (any_of is_failure j.guards) (any_of is_undecided j.guards)
+settled P j e = go (any_of is_failure j.guards) (any_of is_undecided j.guards)
   where
-    go : (t u : Bool) → P (if t then refused 6 else if u then refused 7 else j.effect)
-    go true u = f 6
-    go false true = f 7
+    go : (t u : Bool) → IfOk (if t then Err NoNextState else if u then Err ByteNowhere else j.effect) P
+    go true u = tt
+    go false true = tt
     go false false = e
 
 -- ---- an access
 
 -- the first byte of what is read is in memory
-first_there : (m : List ℕ) (a x : ℕ) → reads 4 (memory_byte m) a ≡ There x → a < length m
+first_there : (m : List ℕ) (a x : ℕ) → reads 4 (memory_byte m) a ≡ Some x → a < length m
 unfolding reads
 first_there m a x = go (ltb a (length m)) (reads 3 (memory_byte m) ((a + 1) % 2 ^ 32)) refl
   where
-    go : (t : Bool) (r : Read) → ltb a (length m) ≡ t → join (if t then There (get_or m a 0) else Nowhere) r ≡ There x → a < length m
+    go : (t : Bool) (r : Option ℕ) → ltb a (length m) ≡ t → join (if t then Some (get_or m a 0) else None) r ≡ Some x → a < length m
     go true r p e = ltb-true a (length m) p
     go false r p e = absurd (let z : ◌≡◌ {A = ℕ} 0 1 = cc in omega arith)
 
@@ -106,21 +104,21 @@ stored_sound n c i w a e t =
 -- a view whose pending stores are those of the block b, and whose event is a word
 module _ (b m : List ℕ) (whole : length m % 4 ≡ 0) (v : View) (io : IoPorts) (held : v.sb ≡ stores b) (event : vector_of v.eev < 2 ^ 32) where
   -- an interrupt or not, the other changes are the same
-  finished_doable : (i : Instruction) (w R ca : ℕ) (c : BufferChange) (ws : WalkChange) (x : Write) → ca < 2 ^ 32 → AllowedChanges (length m) b c ws x → Doable (length m) b (finished i w R ca (vector_of v.eev) c ws x)
+  finished_doable : (i : Instruction) (w R ca : ℕ) (c : BufferChange) (ws : WalkChange) (x : Write) → ca < 2 ^ 32 → AllowedChanges (length m) b c ws x → PlanDoable (length m) b (finished i w R ca (vector_of v.eev) c ws x)
   unfolding finished
   finished_doable i w R ca c ws x l C = go (jisr ca)
     where
-      go : (t : Bool) → Doable (length m) b (if t then interrupted w R ca (vector_of v.eev) c ws x else record { answer = Done; core = changed i w R; buffer = c; walks = ws; write = x })
-      go true = accepted_doable (length m) b refl (l, event) C
-      go false = accepted_doable (length m) b refl (if_both CoreWords (eret i) Return (Execute i w R) tt tt) C
+      go : (t : Bool) → PlanDoable (length m) b (if t then interrupted w R ca (vector_of v.eev) c ws x else record { answer = Done; core = changed i w R; buffer = c; walks = ws; write = x })
+      go true = plan_doable (length m) b (l, event) C
+      go false = plan_doable (length m) b (if_both CoreWords (eret i) Return (Execute i w R) tt tt) C
 
   -- an interrupt that suppresses the instruction
-  nothing_doable : (w ca : ℕ) → ca < 2 ^ 32 → Doable (length m) b (stopped v w ca WalkChange.Nothing)
-  nothing_doable w ca l = accepted_doable (length m) b refl (l, event) (unchanged (length m) b)
+  nothing_doable : (w ca : ℕ) → ca < 2 ^ 32 → PlanDoable (length m) b (stopped v w ca WalkChange.Nothing)
+  nothing_doable w ca l = plan_doable (length m) b (l, event) (unchanged (length m) b)
 
-  faulted_doable : (w ca a : ℕ) → ca < 2 ^ 32 → Doable (length m) b (stopped v w ca (faulted v.core a))
+  faulted_doable : (w ca a : ℕ) → ca < 2 ^ 32 → PlanDoable (length m) b (stopped v w ca (faulted v.core a))
   unfolding walks_ready
-  faulted_doable w ca a l = accepted_doable (length m) b refl (l, event) (walks_change (length m) b (faulted v.core a) refl refl (λ _. tt))
+  faulted_doable w ca a l = plan_doable (length m) b (l, event) (walks_change (length m) b (faulted v.core a) refl refl (λ _. tt))
 
   cause_lt : (i : Instruction) (w : ℕ) (pfls : Bool) → causes v i w pfls < 2 ^ 32
   cause_lt i w pfls = causes_lt (events_as i v.core w (is_event v.eev) pfls) (spr_at v.core sr)
@@ -128,10 +126,10 @@ module _ (b m : List ℕ) (whole : length m % 4 ≡ 0) (v : View) (io : IoPorts)
   without_lt : (mal pff : Bool) → causes_without v mal pff < 2 ^ 32
   without_lt mal pff = causes_lt (events_without (is_event v.eev) mal pff) (spr_at v.core sr)
 
-  load_doable : (i : Instruction) (w ca : ℕ) (x : Loaded) → ca < 2 ^ 32 → Doable (length m) b (on_load v i w ca x)
-  load_doable i w ca (Value x h) c = finished_doable i w x ca _ _ _ c (unchanged (length m) b)
-  load_doable i w ca Loaded.Nowhere c = refused_doable (length m) b 7
-  load_doable i w ca Hazard c = refused_doable (length m) b 6
+  load_doable : (i : Instruction) (w ca : ℕ) (x : Result Loaded LoadError) → ca < 2 ^ 32 → Doable (length m) b (on_load v i w ca x)
+  load_doable i w ca (Ok l) c = finished_doable i w l.value ca _ _ _ c (unchanged (length m) b)
+  load_doable i w ca (Err LoadError.Nowhere) c = tt
+  load_doable i w ca (Err LoadError.Hazard) c = tt
 
   put_change : (s : Store) → store_sound (length m) s ≡ true → length v.sb < 8 → AllowedChanges (length m) b (Put s) WalkChange.Nothing Write.Nothing
   unfolding buffer_ready walks_ready port_ready fits aligned_write
@@ -142,15 +140,15 @@ module _ (b m : List ℕ) (whole : length m % 4 ≡ 0) (v : View) (io : IoPorts)
   store_doable i w ca s t c f = go t f (leb 8 (length v.sb)) refl v.free
     where
       go : (t : Bool) → (t ≡ true → store_sound (length m) s ≡ true) → (l : Bool) → leb 8 (length v.sb) ≡ l → (r : Bool) →
-          Doable (length m) b (if not t then refused 7 else if l then refused 8 else if not r then refused 10 else finished i w 0 ca (vector_of v.eev) (Put s) WalkChange.Nothing Write.Nothing)
-      go false f l p r = refused_doable (length m) b 7
-      go true f true p r = refused_doable (length m) b 8
-      go true f false p false = refused_doable (length m) b 10
+          Doable (length m) b (if not t then Err ByteNowhere else if l then Err StoresFull else if not r then Err NoFreeRecord else Ok (finished i w 0 ca (vector_of v.eev) (Put s) WalkChange.Nothing Write.Nothing))
+      go false f l p r = tt
+      go true f true p r = tt
+      go true f false p false = tt
       go true f false p true = finished_doable i w 0 ca (Put s) _ _ c (put_change s (f refl) (leb-false 8 (length v.sb) p))
 
-  cas_doable : (i : Instruction) (w ca a : ℕ) (r : Read) → ca < 2 ^ 32 → reads 4 (memory_byte m) a ≡ r → a % 4 ≡ 0 → Doable (length m) b (on_cas v i w ca a r)
-  cas_doable i w ca a Nowhere c p e = refused_doable (length m) b 7
-  cas_doable i w ca a (There x) c p e = finished_doable i w x ca _ _ (exchanged v.core w x a) c (go (eqb x (gpr_at v.core (rd w))))
+  cas_doable : (i : Instruction) (w ca a : ℕ) (r : Option ℕ) → ca < 2 ^ 32 → reads 4 (memory_byte m) a ≡ r → a % 4 ≡ 0 → Doable (length m) b (on_cas v i w ca a r)
+  cas_doable i w ca a None c p e = tt
+  cas_doable i w ca a (Some x) c p e = finished_doable i w x ca _ _ (exchanged v.core w x a) c (go (eqb x (gpr_at v.core (rd w))))
     where
       go : (t : Bool) → AllowedChanges (length m) b BufferChange.Nothing WalkChange.Nothing (if t then Memory a 4 (gpr_at v.core (rt w)) else Write.Nothing)
       go true = word_change (length m) b a (gpr_at v.core (rt w)) (omega (arith, first_there m a x p)) e
@@ -166,7 +164,7 @@ module _ (b m : List ℕ) (whole : length m % 4 ≡ 0) (v : View) (io : IoPorts)
       go false true x y = store_doable i w ca (stored_from v.core i w a) (all_there (d i) (length m) a) c (stored_sound (length m) v.core i w a e)
       go false false x y = cas_doable i w ca a (reads 4 (memory_byte m) a) c refl (multiple a (d i) 4 e (cas_width i p x y))
 
-  plain_doable : (i : Instruction) (w ca : ℕ) → ca < 2 ^ 32 → Doable (length m) b (plain v i w ca)
+  plain_doable : (i : Instruction) (w ca : ℕ) → ca < 2 ^ 32 → PlanDoable (length m) b (plain v i w ca)
   unfolding walks_ready
   plain_doable i w ca c = finished_doable i w 0 ca _ (dropped_by v.core i w) _ c (go (flush i) (invlpg i))
     where
@@ -182,7 +180,7 @@ module _ (b m : List ℕ) (whole : length m % 4 ≡ 0) (v : View) (io : IoPorts)
   address_doable i w a p q = go (suppressed (causes v i w false)) refl
     where
       go : (t : Bool) → suppressed (causes v i w false) ≡ t →
-          Doable (length m) b (if t then stopped v w (causes v i w false) WalkChange.Nothing else performed v io m i w (causes v i w false) a)
+          Doable (length m) b (if t then Ok (stopped v w (causes v i w false) WalkChange.Nothing) else performed v io m i w (causes v i w false) a)
       go true e = nothing_doable w (causes v i w false) (cause_lt i w false)
       go false e = performed_doable i w (causes v i w false) a (cause_lt i w false) p (access_aligned i v.core w a (is_event v.eev) false p e q)
 
@@ -191,12 +189,12 @@ module _ (b m : List ℕ) (whole : length m % 4 ≡ 0) (v : View) (io : IoPorts)
     unfolding on_data
     data_doable i w Passes p = address_doable i w (physical v w_r (ea i v.core w)) p (same_offset (user v.core) (walk_ba w_r) (ea i v.core w))
     data_doable i w Faults p = faulted_doable w (causes v i w true) (ea i v.core w) (cause_lt i w true)
-    data_doable i w Undecided p = refused_doable (length m) b 7
+    data_doable i w Undecided p = tt
 
     without_doable : (i : Instruction) (w : ℕ) → Doable (length m) b (without_access v i w)
     without_doable i w = go (suppressed (causes v i w false))
       where
-        go : (t : Bool) → Doable (length m) b (if t then stopped v w (causes v i w false) WalkChange.Nothing else plain v i w (causes v i w false))
+        go : (t : Bool) → Doable (length m) b (if t then Ok (stopped v w (causes v i w false) WalkChange.Nothing) else Ok (plain v i w (causes v i w false)))
         go true = nothing_doable w (causes v i w false) (cause_lt i w false)
         go false = plain_doable i w (causes v i w false) (cause_lt i w false)
 
@@ -208,32 +206,32 @@ module _ (b m : List ℕ) (whole : length m % 4 ≡ 0) (v : View) (io : IoPorts)
         go true p = data_doable i w (fault_of v m (data_request_of v.core i w) w_r) p
         go false p = without_doable i w
 
-    word_doable : (r : Read) → Doable (length m) b (on_word v io m w_r r).effect
+    word_doable : (r : Option ℕ) → Doable (length m) b (on_word v io m w_r r).effect
     unfolding on_word
-    word_doable (There w) = instruction_doable (decoded w) w
-    word_doable Nowhere = refused_doable (length m) b 7
+    word_doable (Some w) = instruction_doable (decoded w) w
+    word_doable None = tt
 
     fetch_doable : (w_i : Walk) (f : Faulting) → Doable (length m) b (on_fetch v io m w_i w_r f).effect
     unfolding on_fetch on_fetch_address
     fetch_doable w_i Passes = word_doable (reads 4 (memory_byte m) (physical v w_i v.core.pc))
     fetch_doable w_i Faults = faulted_doable 0 (causes_without v false true) v.core.pc (without_lt false true)
-    fetch_doable w_i Undecided = refused_doable (length m) b 7
+    fetch_doable w_i Undecided = tt
 
     judged_doable : (w_i : Walk) → Doable (length m) b (judged v io m w_i w_r).effect
     unfolding judged fetch
     judged_doable w_i = go (eqb (v.core.pc % 4) 0)
       where
-        go : (t : Bool) → Doable (length m) b (if t then fetch v io m w_i w_r else yield (stopped v 0 (causes_without v true false) WalkChange.Nothing)).effect
+        go : (t : Bool) → Doable (length m) b (if t then fetch v io m w_i w_r else yield (Ok (stopped v 0 (causes_without v true false) WalkChange.Nothing))).effect
         go true = fetch_doable w_i (fault_of v m (fetch_request_of v.core) w_i)
         go false = nothing_doable 0 (causes_without v true false) (without_lt true false)
 
     step_doable : (w_i : Walk) → Doable (length m) b (core_plan v io m w_i w_r)
     unfolding core_plan
-    step_doable w_i = settled (λ p. Doable (length m) b p) (refused_doable (length m) b) (judged v io m w_i w_r) (judged_doable w_i)
+    step_doable w_i = settled (PlanDoable (length m) b) (judged v io m w_i w_r) (judged_doable w_i)
 
 -- the event of a block is a vector
-vector_lt : (f : Found) → is_vector f ≡ true → vector_of f < 2 ^ 32
-vector_lt (Vector k) e = omega (arith, ltb-true k 256 e)
+vector_lt : (f : Option ℕ) → is_vector f ≡ true → vector_of f < 2 ^ 32
+vector_lt (Some k) e = omega (arith, ltb-true k 256 e)
 vector_lt None e = omega arith
 
 event_lt : (b : List ℕ) → vector_of (event b) < 2 ^ 32
@@ -241,4 +239,4 @@ unfolding event
 event_lt b = vector_lt (event b) (least_vector (eev b))
 
 pub core_plan_lem : (b : List ℕ) (io : IoPorts) (m : List ℕ) (w_i w_r : Walk) → length m % 4 ≡ 0 → MayBeDone (length m) b (core_plan (view_of b) io m w_i w_r)
-core_plan_lem b io m w_i w_r q = may_be_done (step_doable b m q (view_of b) io refl (event_lt b) w_r w_i)
+core_plan_lem b io m w_i w_r q = may_be_done _ _ _ (step_doable b m q (view_of b) io refl (event_lt b) w_r w_i)

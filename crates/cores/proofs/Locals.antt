@@ -1,5 +1,5 @@
--- What a plan changes when it is done: the block of its core, words 4 to 29 of the header, and one aligned run of memory bytes. Nothing else, so
--- sound tables stay sound.
+-- What a plan changes when it is done: the block of its core, words 4 to 29 of the header, and one aligned run of
+-- memory bytes. Nothing else, so sound tables stay sound.
 -- Assumes nothing.
 use Rattle.std.specs.Prelude.{if◌then◌else◌}
 use mathlib.Core.Path.{◌≡◌, refl, ◌∙◌, ap}
@@ -34,7 +34,7 @@ use Rattle.cores.specs.inner.Ready.{fits}
 use Rattle.cores.proofs.Doing.{port_ready_lem}
 use Rattle.cores.proofs.Sounds.{plan_shows}
 use Rattle.cores.proofs.Bounds.{PlanWords, after_words, header_words}
-use Rattle.cores.proofs.Decisions.{aligned_write, MayBeDone}
+use Rattle.cores.proofs.Decisions.{aligned_write, PlanMayBeDone}
 
 -- ---- the header
 
@@ -159,7 +159,7 @@ written_bytes (IoPort a v) m b = b
 pub whole_words : (t : List ℕ) (n : ℕ) → sound t n ≡ true → n % 4 ≡ 0
 whole_words t n e = omega (arith, bytes_divide t n e)
 
-module _ (t m : List ℕ) (k : ℕ) (p : Plan) (e : sound t (length m) ≡ true) (h : k < cores_of t) (D : MayBeDone (length m) (block t k) p) where
+module _ (t m : List ℕ) (k : ℕ) (p : Plan) (e : sound t (length m) ≡ true) (h : k < cores_of t) (D : PlanMayBeDone (length m) (block t k) p) where
   pub plan_long : length (block_after p (block t k)) ≡ 256
   plan_long = (plan_shows (length m) p (block t k) (core_long t (length m) e k h) (core_sound t (length m) e k h) D.is_ready D.is_sound).long
 

@@ -1,26 +1,28 @@
--- Guards one after the other: the first that fails is refusal 6.
+-- Guards one after the other: the first that fails is the refusal that there is no next state.
 -- Assumes nothing.
+use Rattle.std.specs.Prelude.{Result, Err}
+use Rattle.refusals.specs.declared.Refusal.{Refusal}
+use Rattle.refusals.specs.declared.Refusal.TheVariants.{NoNextState, ByteNowhere}
 use mathlib.Core.Path.{◌≡◌, refl, sym}
 use mathlib.Core.Bool.{Bool, true, false}
 use mathlib.Core.List.{[], ◌∷◌}
-use Prim.Native.Nat.{ℕ}
 use Rattle.word.proofs.Tests.{true_false}
 use Rattle.cores.specs.Guards.{undecided, test, Judged, yield, ask, settle, any_of}
 
-pub ask_holds : {A : Type 0} (r : ℕ → A) (b : Bool) (j : Judged A) → b ≡ true → settle r (ask (test b ∷ []) j) ≡ settle r j
+pub ask_holds : {A : Type 0} (b : Bool) (j : Judged (Result A Refusal)) → b ≡ true → settle (ask (test b ∷ []) j) ≡ settle j
 unfolding settle any_of
-ask_holds r true j e = refl
-ask_holds r false j e = absurd (true_false (sym e))
+ask_holds true j e = refl
+ask_holds false j e = absurd (true_false (sym e))
 
-pub ask_fails : {A : Type 0} (r : ℕ → A) (b : Bool) (j : Judged A) → b ≡ false → settle r (ask (test b ∷ []) j) ≡ r 6
+pub ask_fails : {A : Type 0} (b : Bool) (j : Judged (Result A Refusal)) → b ≡ false → settle (ask (test b ∷ []) j) ≡ Err NoNextState
 unfolding settle any_of
-ask_fails r true j e = absurd (true_false e)
-ask_fails r false j e = refl
+ask_fails true j e = absurd (true_false e)
+ask_fails false j e = refl
 
-pub settle_yield : {A : Type 0} (r : ℕ → A) (x : A) → settle r (yield x) ≡ x
+pub settle_yield : {A : Type 0} (x : Result A Refusal) → settle (yield x) ≡ x
 unfolding settle any_of
-settle_yield r x = refl
+settle_yield x = refl
 
-pub settle_undecided : {A : Type 0} (r : ℕ → A) (x : A) → settle r (ask (undecided ∷ []) (yield x)) ≡ r 7
+pub settle_undecided : {A : Type 0} (x : Result A Refusal) → settle (ask (undecided ∷ []) (yield x)) ≡ Err ByteNowhere
 unfolding settle any_of
-settle_undecided r x = refl
+settle_undecided x = refl

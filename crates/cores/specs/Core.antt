@@ -1,6 +1,8 @@
 -- A step of a core (11.3, a = (core, w_i, w_r, i)), on what its block, the I/O APIC's ports and memory show.
 -- Assumes nothing.
-use Rattle.std.specs.Prelude.{if◌then◌else◌, Bool, true, false, not, ◌&&◌, ◌||◌, List, [], ◌∷◌, ℕ, ◌+◌, ◌*◌, ◌%◌, ◌^◌, eqb, leb, length, get_or}
+use Rattle.std.specs.Prelude.{if◌then◌else◌, Bool, true, false, not, ◌&&◌, ◌||◌, List, [], ◌∷◌, ℕ, ◌+◌, ◌*◌, ◌%◌, ◌^◌, eqb, leb, length, get_or, Option, Some, None, is_some, unwrap_or, Result, Ok, Err}
+use Rattle.refusals.specs.declared.Refusal.{Refusal}
+use Rattle.refusals.specs.declared.Refusal.TheVariants.{NoNextState, ByteNowhere, StoresFull, NoFreeRecord}
 use Rattle.layout.specs.Layout as layout
 use Rattle.decode.specs.declared.Instruction.{Instruction}
 use Rattle.decode.specs.Fields.{rs, rd, rt}
@@ -19,14 +21,10 @@ use Rattle.tlb.specs.declared.Faulting.{Faulting}
 use Rattle.tlb.specs.declared.Faulting.TheVariants.{Faults, Passes, Undecided}
 use Rattle.tlb.specs.Walks.{walk_ba, complete, hit, fault, fetch_r, load_r, store_r, base_address, page_key}
 use Rattle.tables.specs.Views.{registers_of, runs, ioregsel_of, iowin_of, port_words_of}
-use Rattle.store_buffer.specs.declared.Read.{Read}
-use Rattle.store_buffer.specs.declared.Read.TheVariants.{There, Nowhere}
 use Rattle.store_buffer.specs.declared.Loaded.{Loaded}
-use Rattle.store_buffer.specs.declared.Loaded.TheVariants.{Value, Hazard}
+use Rattle.store_buffer.specs.declared.LoadError.{LoadError}
 use Rattle.store_buffer.specs.Buffer.{sbhazard}
 use Rattle.store_buffer.specs.System.{Ports, is_port, memory_byte, reads, loaded}
-use Rattle.vector_register.specs.declared.Found.{Found}
-use Rattle.vector_register.specs.declared.Found.TheVariants.{Vector, None}
 use Rattle.apic.specs.LocalApic.{event}
 use Rattle.cores.specs.declared.IoPorts.{IoPorts}
 use Rattle.cores.specs.declared.BufferChange.{BufferChange}
@@ -37,16 +35,17 @@ use Rattle.cores.specs.declared.Write.{Write}
 use Rattle.cores.specs.declared.Write.TheVariants.{Memory}
 use Rattle.cores.specs.declared.Plan.{Plan}
 use Rattle.cores.specs.Guards.{Guard, undecided, test, Judged, yield, ask, settle}
-use Rattle.cores.specs.Plans.{refused, interrupted, finished}
+use Rattle.cores.specs.Plans.{interrupted, finished}
 
--- what a core shows: its registers, whether it runs, pending stores, walks, whether a record is free, external event, and the port words of its local APIC
+-- what a core shows: its registers, whether it runs, pending stores, walks, whether a record is free, external event,
+-- and the port words of its local APIC
 pub record View : Type 0 where
   pub core : Registers
   pub running : Bool
   pub sb : List Store
   pub tlb : List Walk
   pub free : Bool
-  pub eev : Found
+  pub eev : Option ℕ
   pub apic : List ℕ
 
 abbrev pub is_free : List ℕ → Bool
@@ -74,13 +73,11 @@ abbrev pub ports_beside : View → IoPorts → Ports
 ports_beside v io = record { apic = v.apic; select = io.select; window = io.window }
 
 -- ∨ eev[i], and min { j | eev[j] = 1 }
-abbrev pub is_event : Found → Bool
-is_event None = false
-is_event (Vector k) = true
+abbrev pub is_event : Option ℕ → Bool
+is_event e = is_some e
 
-abbrev pub vector_of : Found → ℕ
-vector_of None = 0
-vector_of (Vector k) = k
+abbrev pub vector_of : Option ℕ → ℕ
+vector_of e = unwrap_or e 0
 
 -- ---- causes
 
@@ -122,33 +119,33 @@ physical v w a = if user v.core then walk_ba w * 2 ^ 12 + a % 2 ^ 12 else a
 
 -- ---- the effect of an instruction i with its word w and masked causes ca that do not suppress it
 
-abbrev pub on_load : View → Instruction → ℕ → ℕ → Loaded → Plan
-on_load v i w ca (Value x h) = finished i w x ca (vector_of v.eev) BufferChange.Nothing WalkChange.Nothing Write.Nothing
-on_load v i w ca Loaded.Nowhere = refused 7
-on_load v i w ca Hazard = refused 6
+abbrev pub on_load : View → Instruction → ℕ → ℕ → Result Loaded LoadError → Result Plan Refusal
+on_load v i w ca (Ok l) = Ok (finished i w l.value ca (vector_of v.eev) BufferChange.Nothing WalkChange.Nothing Write.Nothing)
+on_load v i w ca (Err LoadError.Nowhere) = Err ByteNowhere
+on_load v i w ca (Err LoadError.Hazard) = Err NoNextState
 
 -- at most eight stores are pending
-abbrev pub on_store : View → Instruction → ℕ → ℕ → Store → Bool → Plan
+abbrev pub on_store : View → Instruction → ℕ → ℕ → Store → Bool → Result Plan Refusal
 on_store v i w ca s there =
-    if not there then refused 7
-    else if leb 8 (length v.sb) then refused 8
-    else if not v.free then refused 10
-    else finished i w 0 ca (vector_of v.eev) (Put s) WalkChange.Nothing Write.Nothing
+    if not there then Err ByteNowhere
+    else if leb 8 (length v.sb) then Err StoresFull
+    else if not v.free then Err NoFreeRecord
+    else Ok (finished i w 0 ca (vector_of v.eev) (Put s) WalkChange.Nothing Write.Nothing)
 
 -- definition 5, the access with a compare value: rd receives the old word; rt is written where rd was equal to it
 abbrev pub exchanged : Registers → ℕ → ℕ → ℕ → Write
 exchanged c w x a = if eqb x (gpr_at c (rd w)) then Memory a 4 (gpr_at c (rt w)) else Write.Nothing
 
-abbrev pub on_cas : View → Instruction → ℕ → ℕ → ℕ → Read → Plan
-on_cas v i w ca a (There x) = finished i w x ca (vector_of v.eev) BufferChange.Nothing WalkChange.Nothing (exchanged v.core w x a)
-on_cas v i w ca a Nowhere = refused 7
+abbrev pub on_cas : View → Instruction → ℕ → ℕ → ℕ → Option ℕ → Result Plan Refusal
+on_cas v i w ca a (Some x) = Ok (finished i w x ca (vector_of v.eev) BufferChange.Nothing WalkChange.Nothing (exchanged v.core w x a))
+on_cas v i w ca a None = Err ByteNowhere
 
 -- what a store puts into the buffer
 abbrev pub stored_from : Registers → Instruction → ℕ → ℕ → Store
 stored_from c i w a = record { address = a; value = sv i c w; width = d i }
 
 -- a load, store or cas at the physical address a
-unfoldable pub performed : View → IoPorts → List ℕ → Instruction → ℕ → ℕ → ℕ → Plan
+unfoldable pub performed : View → IoPorts → List ℕ → Instruction → ℕ → ℕ → ℕ → Result Plan Refusal
 performed v io m i w ca a =
     if load i then on_load v i w ca (loaded v.sb (ports_beside v io) m a (d i))
     else if store i then on_store v i w ca (stored_from v.core i w a) (all_there (d i) (length m) a)
@@ -165,11 +162,11 @@ dropped_by c i w =
 abbrev pub plain : View → Instruction → ℕ → ℕ → Plan
 plain v i w ca = finished i w 0 ca (vector_of v.eev) BufferChange.Nothing (dropped_by v.core i w) Write.Nothing
 
-abbrev pub unless_suppressed : View → ℕ → ℕ → Plan → Plan
-unless_suppressed v w ca p = if suppressed ca then stopped v w ca WalkChange.Nothing else p
+abbrev pub unless_suppressed : View → ℕ → ℕ → Result Plan Refusal → Result Plan Refusal
+unless_suppressed v w ca p = if suppressed ca then Ok (stopped v w ca WalkChange.Nothing) else p
 
-abbrev pub without_access : View → Instruction → ℕ → Plan
-without_access v i w = let ca : ℕ = causes v i w false in unless_suppressed v w ca (plain v i w ca)
+abbrev pub without_access : View → Instruction → ℕ → Result Plan Refusal
+without_access v i w = let ca : ℕ = causes v i w false in unless_suppressed v w ca (Ok (plain v i w ca))
 
 -- ---- the guards of an instruction
 
@@ -192,21 +189,21 @@ abbrev pub has_hazard : List Store → Instruction → ℕ → Bool
 has_hazard sb i a = load i && sbhazard sb a (d i)
 
 -- without a fault, at the physical address a
-unfoldable pub on_address : View → IoPorts → List ℕ → Instruction → ℕ → ℕ → Judged Plan
+unfoldable pub on_address : View → IoPorts → List ℕ → Instruction → ℕ → ℕ → Judged (Result Plan Refusal)
 on_address v io m i w a =
     let ca : ℕ = causes v i w false in
     ask (test (not (avoids_ports i && is_port a)) ∷ test (not (has_hazard v.sb i a)) ∷ []) (yield (unless_suppressed v w ca (performed v io m i w ca a)))
 
-unfoldable pub on_data : View → IoPorts → List ℕ → Walk → Instruction → ℕ → Faulting → Judged Plan
+unfoldable pub on_data : View → IoPorts → List ℕ → Walk → Instruction → ℕ → Faulting → Judged (Result Plan Refusal)
 on_data v io m w_r i w Passes = ask (complete_guard v w_r ∷ []) (on_address v io m i w (physical v w_r (ea i v.core w)))
-on_data v io m w_r i w Faults = yield (stopped v w (causes v i w true) (faulted v.core (ea i v.core w)))
-on_data v io m w_r i w Undecided = ask (undecided ∷ []) (yield (refused 7))
+on_data v io m w_r i w Faults = yield (Ok (stopped v w (causes v i w true) (faulted v.core (ea i v.core w))))
+on_data v io m w_r i w Undecided = ask (undecided ∷ []) (yield (Err ByteNowhere))
 
 -- a load, store or cas by the data walk
-unfoldable pub on_access : View → IoPorts → List ℕ → Walk → Instruction → ℕ → Judged Plan
+unfoldable pub on_access : View → IoPorts → List ℕ → Walk → Instruction → ℕ → Judged (Result Plan Refusal)
 on_access v io m w_r i w = ask (walk_guard v (data_request_of v.core i w) w_r ∷ []) (on_data v io m w_r i w (fault_of v m (data_request_of v.core i w) w_r))
 
-unfoldable pub on_instruction : View → IoPorts → List ℕ → Walk → Instruction → ℕ → Judged Plan
+unfoldable pub on_instruction : View → IoPorts → List ℕ → Walk → Instruction → ℕ → Judged (Result Plan Refusal)
 on_instruction v io m w_r i w =
     ask (test (finds_buffer v.sb i) ∷ []) (if is_access i then on_access v io m w_r i w else yield (without_access v i w))
 
@@ -215,29 +212,29 @@ on_instruction v io m w_r i w =
 abbrev pub fetch_request_of : Registers → Request
 fetch_request_of c = record { asid = asid c; va = c.pc; r = fetch_r }
 
-unfoldable pub on_word : View → IoPorts → List ℕ → Walk → Read → Judged Plan
-on_word v io m w_r (There w) = on_instruction v io m w_r (decoded w) w
-on_word v io m w_r Nowhere = ask (undecided ∷ []) (yield (refused 7))
+unfoldable pub on_word : View → IoPorts → List ℕ → Walk → Option ℕ → Judged (Result Plan Refusal)
+on_word v io m w_r (Some w) = on_instruction v io m w_r (decoded w) w
+on_word v io m w_r None = ask (undecided ∷ []) (yield (Err ByteNowhere))
 
 -- instructions are read from memory alone, and never at a port
-unfoldable pub on_fetch_address : View → IoPorts → List ℕ → Walk → ℕ → Judged Plan
+unfoldable pub on_fetch_address : View → IoPorts → List ℕ → Walk → ℕ → Judged (Result Plan Refusal)
 on_fetch_address v io m w_r a = ask (test (not (is_port a)) ∷ []) (on_word v io m w_r (reads 4 (memory_byte m) a))
 
-unfoldable pub on_fetch : View → IoPorts → List ℕ → Walk → Walk → Faulting → Judged Plan
+unfoldable pub on_fetch : View → IoPorts → List ℕ → Walk → Walk → Faulting → Judged (Result Plan Refusal)
 on_fetch v io m w_i w_r Passes = ask (complete_guard v w_i ∷ []) (on_fetch_address v io m w_r (physical v w_i v.core.pc))
-on_fetch v io m w_i w_r Faults = yield (stopped v 0 (causes_without v false true) (faulted v.core v.core.pc))
-on_fetch v io m w_i w_r Undecided = ask (undecided ∷ []) (yield (refused 7))
+on_fetch v io m w_i w_r Faults = yield (Ok (stopped v 0 (causes_without v false true) (faulted v.core v.core.pc)))
+on_fetch v io m w_i w_r Undecided = ask (undecided ∷ []) (yield (Err ByteNowhere))
 
 -- a fetch by the fetch walk
-unfoldable pub fetch : View → IoPorts → List ℕ → Walk → Walk → Judged Plan
+unfoldable pub fetch : View → IoPorts → List ℕ → Walk → Walk → Judged (Result Plan Refusal)
 fetch v io m w_i w_r = ask (walk_guard v (fetch_request_of v.core) w_i ∷ []) (on_fetch v io m w_i w_r (fault_of v m (fetch_request_of v.core) w_i))
 
 -- a pc that is not divisible by four gives no fetch
-unfoldable pub judged : View → IoPorts → List ℕ → Walk → Walk → Judged Plan
+unfoldable pub judged : View → IoPorts → List ℕ → Walk → Walk → Judged (Result Plan Refusal)
 judged v io m w_i w_r =
     ask (test v.running ∷ [])
     (if eqb (v.core.pc % 4) 0 then fetch v io m w_i w_r
-    else yield (stopped v 0 (causes_without v true false) WalkChange.Nothing))
+    else yield (Ok (stopped v 0 (causes_without v true false) WalkChange.Nothing)))
 
-unfoldable pub core_plan : View → IoPorts → List ℕ → Walk → Walk → Plan
-core_plan v io m w_i w_r = settle refused (judged v io m w_i w_r)
+unfoldable pub core_plan : View → IoPorts → List ℕ → Walk → Walk → Result Plan Refusal
+core_plan v io m w_i w_r = settle (judged v io m w_i w_r)

@@ -1,6 +1,9 @@
--- The scheme of refusals 6 and 7: a guard that fails gives 6, wherever it stands; if none fails and one cannot be decided, 7.
+-- The scheme of refusals 6 and 7: a guard that fails gives 6, wherever it stands; if none fails and one cannot be
+-- decided, 7.
 -- Assumes nothing.
-use Rattle.std.specs.Prelude.{if◌then◌else◌, Bool, true, false, ◌||◌, List, [], ◌∷◌, ◌++◌, ℕ}
+use Rattle.std.specs.Prelude.{if◌then◌else◌, Bool, true, false, ◌||◌, List, [], ◌∷◌, ◌++◌, Result, Err}
+use Rattle.refusals.specs.declared.Refusal.{Refusal}
+use Rattle.refusals.specs.declared.Refusal.TheVariants.{NoNextState, ByteNowhere}
 
 pub data Guard : Type 0 where
   holds : Guard
@@ -36,9 +39,9 @@ yield x = record { guards = []; effect = x }
 abbrev pub ask : {A : Type 0} → List Guard → Judged A → Judged A
 ask gs j = record { guards = gs ++ j.guards; effect = j.effect }
 
--- the effect, or what the refusal of that number makes
-unfoldable pub settle : {A : Type 0} → (ℕ → A) → Judged A → A
-settle refused j =
-    if any_of is_failure j.guards then refused 6
-    else if any_of is_undecided j.guards then refused 7
+-- the effect, or a refusal
+unfoldable pub settle : {A : Type 0} → Judged (Result A Refusal) → Result A Refusal
+settle j =
+    if any_of is_failure j.guards then Err NoNextState
+    else if any_of is_undecided j.guards then Err ByteNowhere
     else j.effect

@@ -4,17 +4,13 @@ use Rattle.std.specs.Prelude.{if◌then◌else◌, ℕ}
 use Rattle.decode.specs.declared.Instruction.{Instruction}
 use Rattle.decode.specs.Mnemonics.{eret}
 use Rattle.isa.specs.Interrupts.{jisr, il}
-use Rattle.steps.specs.declared.Answer.TheVariants.{Done, Interrupt, Refused}
+use Rattle.steps.specs.declared.Answer.TheVariants.{Done, Interrupt}
 use Rattle.cores.specs.declared.CoreChange.{CoreChange}
 use Rattle.cores.specs.declared.CoreChange.TheVariants.{Return, Execute}
 use Rattle.cores.specs.declared.BufferChange.{BufferChange}
 use Rattle.cores.specs.declared.WalkChange.{WalkChange}
 use Rattle.cores.specs.declared.Write.{Write}
 use Rattle.cores.specs.declared.Plan.{Plan}
-
-abbrev pub refused : ℕ → Plan
-refused n =
-    record { answer = Refused n; core = CoreChange.Nothing; buffer = BufferChange.Nothing; walks = WalkChange.Nothing; write = Write.Nothing }
 
 -- a step of the TLB or of the store buffer
 abbrev pub done : BufferChange → WalkChange → Write → Plan

@@ -1,5 +1,5 @@
 // An instruction that was fetched: data access, causes and effect (11.3).
-ghost use Rattle.std.specs.Prelude.{◌≡◌, true, false, not, ◌||◌, ◌%◌, ◌*◌, ◌^◌, length, ltb};
+ghost use Rattle.std.specs.Prelude.{◌≡◌, Ok, true, false, not, ◌||◌, ◌%◌, ◌*◌, ◌^◌, length, ltb};
 ghost use Rattle.isa.specs.Core.{d, mal, ea};
 ghost use Rattle.isa.specs.Interrupts.{user};
 ghost use Rattle.records.specs.Records.{linked, stores};
@@ -8,38 +8,43 @@ ghost use Rattle.store_buffer.specs.System.{aligned, sized, loaded, reads, memor
 ghost use Rattle.tables.specs.Views.{registers_of};
 ghost use Rattle.tlb.specs.declared.Faulting.TheVariants as verdict;
 ghost use Rattle.cores.specs.Guards.{settle};
-ghost use Rattle.cores.specs.Plans as p;
 ghost use Rattle.cores.specs.Core as x;
-ghost use Rattle.cores.specs.inner.Ready.{SoundBeside};
 
 use super::{
-    BufferChange, Fetched, IoPorts, Plan, WalkChange, Write, causes, finish, refused, translation,
+    BufferChange, Fetched, LentCore, Plan, WalkChange, Write, causes, finish, translation,
 };
 use decode::{Instruction, classes, fields};
 use isa::interrupts;
 use records::{Flush, Store, Walk};
-use store_buffer::{Loaded, Read};
+use refusals::Refusal;
+use store_buffer::LoadError;
 use tables::block;
 use tlb::{Faulting, Request};
 
-fn load(b: &[u32], io: IoPorts, m: &[u8], f: Fetched, a: u32) -> Plan
-    requires sound_beside { SoundBeside b.now m.now }
+fn load(core: &LentCore, f: Fetched, a: u32) -> Result<Plan, Refusal>
     requires instruction_value { aligned a (d f.instruction) ≡ true }
-    ensures { result ≡ x.on_load (x.view_of b.now) f.instruction f.word f.causes (loaded (stores b.now) (x.ports_beside (x.view_of b.now) io) m.now a (d f.instruction)) }
+    ensures { result ≡ x.on_load (x.view_of core.now.block.now) f.instruction f.word f.causes (loaded (stores core.now.block.now) (x.ports_beside (x.view_of core.now.block.now) core.now.io) core.now.memory.now a (d f.instruction)) }
 {
     let i = f.instruction;
-    let l = store_buffer::load(b, io.select, io.window, m, a, interrupts::width(i));
+    let l = store_buffer::load(
+        core.block,
+        core.io.select,
+        core.io.window,
+        core.memory,
+        a,
+        interrupts::width(i),
+    );
     match l {
-        Loaded::Value(v, _) => finish::finished(
-            b,
+        Ok(l) => Ok(finish::finished(
+            core.block,
             f,
-            v,
+            l.value,
             BufferChange::Nothing,
             WalkChange::Nothing,
             Write::Nothing,
-        ),
-        Loaded::Nowhere => refused(7),
-        Loaded::Hazard => refused(6),
+        )),
+        Err(LoadError::Nowhere) => Err(Refusal::ByteNowhere),
+        Err(LoadError::Hazard) => Err(Refusal::NoNextState),
     }
 }
 
@@ -57,13 +62,11 @@ fn low(v: u32, width: u32) -> u32
     requires { sized width ≡ true }
     ensures { result ≡ v % 2 ^ (8 * width) }
 {
-    if width == 1 {
-        return v % 256;
+    match width {
+        1 => v % 0x100,
+        2 => v % 0x1_0000,
+        _ => v,
     }
-    if width == 2 {
-        return v % 0x1_0000;
-    }
-    v
 }
 
 fn stored(b: &[u32], f: Fetched, a: u32) -> Store
@@ -81,30 +84,29 @@ fn stored(b: &[u32], f: Fetched, a: u32) -> Store
     }
 }
 
-fn store(b: &[u32], m: &[u8], f: Fetched, a: u32) -> Plan
-    requires sound_beside { SoundBeside b.now m.now }
+fn store(core: &LentCore, f: Fetched, a: u32) -> Result<Plan, Refusal>
     requires instruction_value { aligned a (d f.instruction) ≡ true }
-    ensures { result ≡ x.on_store (x.view_of b.now) f.instruction f.word f.causes (x.stored_from (registers_of b.now) f.instruction f.word a) (all_there (d f.instruction) (length m.now) a) }
+    ensures { result ≡ x.on_store (x.view_of core.now.block.now) f.instruction f.word f.causes (x.stored_from (registers_of core.now.block.now) f.instruction f.word a) (all_there (d f.instruction) (length core.now.memory.now) a) }
 {
     let i = f.instruction;
-    if !is_there(a, interrupts::width(i), m.len()) {
-        return refused(7);
+    if !is_there(a, interrupts::width(i), core.memory.len()) {
+        return Err(Refusal::ByteNowhere);
     }
-    if 8 <= records::count_stores(b) {
-        return refused(8);
+    if 8 <= records::count_stores(core.block) {
+        return Err(Refusal::StoresFull);
     }
-    if b[layout::FREE_HEAD] == 0 {
-        return refused(10);
+    if core.block[layout::FREE_HEAD] == 0 {
+        return Err(Refusal::NoFreeRecord);
     }
-    let s = stored(b, f, a);
-    finish::finished(
-        b,
+    let s = stored(core.block, f, a);
+    Ok(finish::finished(
+        core.block,
         f,
         0,
         BufferChange::Put(s),
         WalkChange::Nothing,
         Write::Nothing,
-    )
+    ))
 }
 
 // What a cas writes that has read a word.
@@ -118,36 +120,41 @@ fn exchanged(b: &[u32], w: u32, read: u32, a: u32) -> Write
     Write::Nothing
 }
 
-fn cas(b: &[u32], m: &[u8], f: Fetched, a: u32) -> Plan
-    requires b_len { length b.now ≡ 256 }
+fn cas(core: &LentCore, f: Fetched, a: u32) -> Result<Plan, Refusal>
     requires a_value { aligned a 4 ≡ true }
-    ensures { result ≡ x.on_cas (x.view_of b.now) f.instruction f.word f.causes a (reads 4 (memory_byte m.now) a) }
+    ensures { result ≡ x.on_cas (x.view_of core.now.block.now) f.instruction f.word f.causes a (reads 4 (memory_byte core.now.memory.now) a) }
 {
-    let r = store_buffer::read_memory(m, a, 4);
+    let r = store_buffer::read_memory(core.memory, a, 4);
     match r {
-        Read::There(v) => {
-            let write = exchanged(b, f.word, v, a);
-            finish::finished(b, f, v, BufferChange::Nothing, WalkChange::Nothing, write)
+        Some(v) => {
+            let write = exchanged(core.block, f.word, v, a);
+            Ok(finish::finished(
+                core.block,
+                f,
+                v,
+                BufferChange::Nothing,
+                WalkChange::Nothing,
+                write,
+            ))
         }
-        Read::Nowhere => refused(7),
+        None => Err(Refusal::ByteNowhere),
     }
 }
 
 // A load, store or cas at a physical address.
-fn performed(b: &[u32], io: IoPorts, m: &[u8], f: Fetched, a: u32) -> Plan
-    requires sound_beside { SoundBeside b.now m.now }
+fn performed(core: &LentCore, f: Fetched, a: u32) -> Result<Plan, Refusal>
     requires instruction_value { x.is_access f.instruction ≡ true }
     requires instruction_value_2 { aligned a (d f.instruction) ≡ true }
-    ensures { result ≡ x.performed (x.view_of b.now) io m.now f.instruction f.word f.causes a }
+    ensures { result ≡ x.performed (x.view_of core.now.block.now) core.now.io core.now.memory.now f.instruction f.word f.causes a }
 {
     let i = f.instruction;
     if classes::is_load(i) {
-        return load(b, io, m, f, a);
+        return load(core, f, a);
     }
     if classes::is_store(i) {
-        return store(b, m, f, a);
+        return store(core, f, a);
     }
-    cas(b, m, f, a)
+    cas(core, f, a)
 }
 
 // Whether an instruction may access no port.
@@ -170,41 +177,39 @@ fn has_hazard(b: &[u32], i: Instruction, a: u32) -> bool
 }
 
 // A load, store or cas that does not fault, at its physical address.
-fn at_address(b: &[u32], io: IoPorts, m: &[u8], f: Fetched, a: u32) -> Plan
-    requires sound_beside { SoundBeside b.now m.now }
+fn at_address(core: &LentCore, f: Fetched, a: u32) -> Result<Plan, Refusal>
     requires instruction_value { x.is_access f.instruction ≡ true }
-    requires a_value { a % 4 ≡ ea f.instruction (registers_of b.now) f.word % 4 }
-    requires causes_value { f.causes ≡ x.causes (x.view_of b.now) f.instruction f.word false }
-    ensures { result ≡ settle p.refused (x.on_address (x.view_of b.now) io m.now f.instruction f.word a) }
+    requires a_value { a % 4 ≡ ea f.instruction (registers_of core.now.block.now) f.word % 4 }
+    requires causes_value { f.causes ≡ x.causes (x.view_of core.now.block.now) f.instruction f.word false }
+    ensures { result ≡ settle (x.on_address (x.view_of core.now.block.now) core.now.io core.now.memory.now f.instruction f.word a) }
 {
     let i = f.instruction;
     if avoids_ports(i) & store_buffer::is_port(a) {
-        return refused(6);
+        return Err(Refusal::NoNextState);
     }
     if causes::suppress(f.causes) {
-        if has_hazard(b, i, a) {
-            return refused(6);
+        if has_hazard(core.block, i, a) {
+            return Err(Refusal::NoNextState);
         }
-        return finish::stopped(b, f.word, f.causes, WalkChange::Nothing);
+        return Ok(finish::stopped(core.block, f.word, f.causes, WalkChange::Nothing));
     }
-    performed(b, io, m, f, a)
+    performed(core, f, a)
 }
 
 // A load, store or cas that does not fault, by the walk that was used.
-fn passed(b: &[u32], io: IoPorts, m: &[u8], walk: Walk, f: Fetched) -> Plan
-    requires sound_beside { SoundBeside b.now m.now }
+fn passed(core: &LentCore, walk: Walk, f: Fetched) -> Result<Plan, Refusal>
     requires instruction_value { x.is_access f.instruction ≡ true }
-    requires second_value { (not (user (registers_of b.now)) || ltb walk.second (2 ^ 20)) ≡ true }
-    requires causes_value { f.causes ≡ x.causes (x.view_of b.now) f.instruction f.word false }
-    ensures { result ≡ settle p.refused (x.on_data (x.view_of b.now) io m.now walk f.instruction f.word verdict.Passes) }
+    requires second_value { (not (user (registers_of core.now.block.now)) || ltb walk.second (2 ^ 20)) ≡ true }
+    requires causes_value { f.causes ≡ x.causes (x.view_of core.now.block.now) f.instruction f.word false }
+    ensures { result ≡ settle (x.on_data (x.view_of core.now.block.now) core.now.io core.now.memory.now walk f.instruction f.word verdict.Passes) }
 {
-    let user = block::user(b);
+    let user = block::user(core.block);
     if !translation::ends(user, walk) {
-        return refused(6);
+        return Err(Refusal::NoNextState);
     }
     let i = f.instruction;
-    let a = translation::physical(user, walk, causes::address(b, i, f.word));
-    at_address(b, io, m, f, a)
+    let a = translation::physical(user, walk, causes::address(core.block, i, f.word));
+    at_address(core, f, a)
 }
 
 fn data_request(b: &[u32], i: Instruction, w: u32) -> Request
@@ -213,43 +218,36 @@ fn data_request(b: &[u32], i: Instruction, w: u32) -> Request
 {
     let asid = block::asid(b);
     let va = causes::address(b, i, w);
-    if classes::is_store(i) | classes::is_cas(i) {
-        return Request {
-            asid,
-            va,
-            r: tlb::STORE,
-        };
-    }
-    Request {
-        asid,
-        va,
-        r: tlb::LOAD,
-    }
+    let r = if classes::is_store(i) | classes::is_cas(i) {
+        tlb::STORE
+    } else {
+        tlb::LOAD
+    };
+    Request { asid, va, r }
 }
 
 // A load, store or cas by the data walk. A page fault is one cause more.
-fn access(b: &[u32], io: IoPorts, m: &[u8], walk: Walk, f: Fetched) -> Plan
-    requires sound_beside { SoundBeside b.now m.now }
+fn access(core: &LentCore, walk: Walk, f: Fetched) -> Result<Plan, Refusal>
     requires instruction_value { x.is_access f.instruction ≡ true }
-    requires causes_value { f.causes ≡ x.causes (x.view_of b.now) f.instruction f.word false }
-    ensures { result ≡ settle p.refused (x.on_access (x.view_of b.now) io m.now walk f.instruction f.word) }
+    requires causes_value { f.causes ≡ x.causes (x.view_of core.now.block.now) f.instruction f.word false }
+    ensures { result ≡ settle (x.on_access (x.view_of core.now.block.now) core.now.io core.now.memory.now walk f.instruction f.word) }
 {
-    let user = block::user(b);
+    let user = block::user(core.block);
     let i = f.instruction;
-    let t = data_request(b, i, f.word);
-    if !translation::fits(b, user, t, walk) {
-        return refused(6);
+    let t = data_request(core.block, i, f.word);
+    if !translation::fits(core.block, user, t, walk) {
+        return Err(Refusal::NoNextState);
     }
-    let v = translation::fault(m, user, t, walk);
+    let v = translation::fault(core.memory, user, t, walk);
     match v {
-        Faulting::Passes => passed(b, io, m, walk, f),
-        Faulting::Faults => finish::stopped(
-            b,
+        Faulting::Passes => passed(core, walk, f),
+        Faulting::Faults => Ok(finish::stopped(
+            core.block,
             f.word,
             f.causes + 32,
-            translation::faulted(b, t.va),
-        ),
-        Faulting::Undecided => refused(7),
+            translation::faulted(core.block, t.va),
+        )),
+        Faulting::Undecided => Err(Refusal::ByteNowhere),
     }
 }
 
@@ -273,7 +271,7 @@ fn dropped(b: &[u32], i: Instruction, w: u32) -> WalkChange
 fn plain(b: &[u32], f: Fetched) -> Plan
     requires b_len { length b.now ≡ 256 }
     requires causes_value { f.causes ≡ x.causes (x.view_of b.now) f.instruction f.word false }
-    ensures { result ≡ x.without_access (x.view_of b.now) f.instruction f.word }
+    ensures { Ok result ≡ x.without_access (x.view_of b.now) f.instruction f.word }
 {
     let i = f.instruction;
     let w = f.word;
@@ -303,21 +301,20 @@ fn is_access(i: Instruction) -> bool
 }
 
 // An instruction that was fetched.
-pub fn instruction(b: &[u32], io: IoPorts, m: &[u8], walk: Walk, i: Instruction, w: u32) -> Plan
-    requires { SoundBeside b.now m.now }
-    ensures { result ≡ settle p.refused (x.on_instruction (x.view_of b.now) io m.now walk i w) }
+pub fn instruction(core: &LentCore, walk: Walk, i: Instruction, w: u32) -> Result<Plan, Refusal>
+    ensures { result ≡ settle (x.on_instruction (x.view_of core.now.block.now) core.now.io core.now.memory.now walk i w) }
 {
-    if !finds_buffer(b, i) {
-        return refused(6);
+    if !finds_buffer(core.block, i) {
+        return Err(Refusal::NoNextState);
     }
-    let causes = causes::of(b, i, w);
+    let causes = causes::of(core.block, i, w);
     let f = Fetched {
         instruction: i,
         word: w,
         causes,
     };
     if is_access(i) {
-        return access(b, io, m, walk, f);
+        return access(core, walk, f);
     }
-    plain(b, f)
+    Ok(plain(core.block, f))
 }

@@ -7,11 +7,10 @@ ghost use Rattle.apic.specs.LocalApic.{event};
 ghost use Rattle.tables.specs.Views.{registers_of};
 ghost use Rattle.cores.specs.Core as x;
 
-use super::finish;
 use apic::local;
 use decode::{Instruction, fields};
 use isa::interrupts;
-use isa::interrupts::Events;
+use isa::interrupts::{Events, Issued};
 use tables::block;
 
 // The effective address.
@@ -28,7 +27,7 @@ fn is_heard(b: &[u32], status: u32) -> bool
     ensures { (result && is_set status 1) ≡ (x.is_event (event b.now) && is_set status 1) }
 {
     if (status >> 1) % 2 == 1 {
-        return finish::is_event(local::event(b));
+        return local::event(b).is_some();
     }
     false
 }
@@ -40,9 +39,13 @@ pub fn of(b: &[u32], i: Instruction, w: u32) -> u32
 {
     let status = block::status(b);
     let io = is_heard(b, status);
-    let p = block::general(b, fields::rs(w));
-    let q = block::general(b, fields::rt(w));
-    interrupts::causes_of(i, w, p, q, block::user(b), io, false, status)
+    let issued = Issued {
+        instruction: i,
+        word: w,
+        rs: block::general(b, fields::rs(w)),
+        rt: block::general(b, fields::rt(w)),
+    };
+    issued.causes(block::user(b), io, false, status)
 }
 
 // Of a core that has no instruction: a misaligned pc, or a page fault on fetch.

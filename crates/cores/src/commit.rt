@@ -14,7 +14,8 @@ use decode::Instruction;
 use ioapic::ports;
 use tables::registers;
 
-// The registers are taken out of the block, and what an instruction, an interrupt or a return makes of them is put back.
+// The registers are taken out of the block, and what an instruction, an interrupt or a return makes of them is put
+// back.
 fn execute(b: &mut [u32], i: Instruction, w: u32, read: u32)
     requires { length b.old ≡ 256 }
     ensures { b.new ≡ x.core_after (CoreChange.Execute i w read) b.old }
@@ -96,13 +97,8 @@ fn local_port(b: &mut [u32], write: Write)
     requires write_value { port_ready write ≡ true }
     ensures { b.new ≡ x.port_after write b.old }
 {
-    match write {
-        Write::Nothing => {}
-        Write::Memory(_, _, _) => {}
-        Write::LocalPort(a, v) => {
-            local::write(b, a as usize, v);
-        }
-        Write::IoPort(_, _) => {}
+    if let Write::LocalPort(a, v) = write {
+        local::write(b, a as usize, v);
     }
 }
 

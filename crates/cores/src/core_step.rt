@@ -4,48 +4,44 @@ ghost use Rattle.isa.specs.Interrupts.{user};
 ghost use Rattle.tables.specs.Views.{registers_of};
 ghost use Rattle.tlb.specs.declared.Faulting.TheVariants as verdict;
 ghost use Rattle.cores.specs.Guards.{settle};
-ghost use Rattle.cores.specs.Plans as p;
 ghost use Rattle.cores.specs.Core as x;
-ghost use Rattle.cores.specs.inner.Ready.{SoundBeside};
 
-use super::{IoPorts, Plan, WalkChange, access, causes, finish, refused, translation};
+use super::{LentCore, Plan, WalkChange, access, causes, finish, translation};
 use records::Walk;
-use store_buffer::Read;
+use refusals::Refusal;
 use tables::block;
 use tlb::{Faulting, Request};
 
 // The instruction at a physical address.
-fn at_address(b: &[u32], io: IoPorts, m: &[u8], access: Walk, a: u32) -> Plan
-    requires sound_beside { SoundBeside b.now m.now }
+fn at_address(core: &LentCore, access: Walk, a: u32) -> Result<Plan, Refusal>
     requires a_value { a % 4 ≡ 0 }
-    ensures { result ≡ settle p.refused (x.on_fetch_address (x.view_of b.now) io m.now access a) }
+    ensures { result ≡ settle (x.on_fetch_address (x.view_of core.now.block.now) core.now.io core.now.memory.now access a) }
 {
     if store_buffer::is_port(a) {
-        return refused(6);
+        return Err(Refusal::NoNextState);
     }
-    let r = store_buffer::read_memory(m, a, 4);
+    let r = store_buffer::read_memory(core.memory, a, 4);
     match r {
-        Read::There(w) => {
+        Some(w) => {
             let i = decode::decode(w);
-            access::instruction(b, io, m, access, i, w)
+            access::instruction(core, access, i, w)
         }
-        Read::Nowhere => refused(7),
+        None => Err(Refusal::ByteNowhere),
     }
 }
 
 // A fetch that does not fault, by the walk that was used.
-fn passed(b: &[u32], io: IoPorts, m: &[u8], fetch: Walk, access: Walk) -> Plan
-    requires sound_beside { SoundBeside b.now m.now }
-    requires b_value { (registers_of b.now).pc % 4 ≡ 0 }
-    requires second_value { (not (user (registers_of b.now)) || ltb fetch.second (2 ^ 20)) ≡ true }
-    ensures { result ≡ settle p.refused (x.on_fetch (x.view_of b.now) io m.now fetch access verdict.Passes) }
+fn passed(core: &LentCore, fetch: Walk, access: Walk) -> Result<Plan, Refusal>
+    requires b_value { (registers_of core.now.block.now).pc % 4 ≡ 0 }
+    requires second_value { (not (user (registers_of core.now.block.now)) || ltb fetch.second (2 ^ 20)) ≡ true }
+    ensures { result ≡ settle (x.on_fetch (x.view_of core.now.block.now) core.now.io core.now.memory.now fetch access verdict.Passes) }
 {
-    let user = block::user(b);
+    let user = block::user(core.block);
     if !translation::ends(user, fetch) {
-        return refused(6);
+        return Err(Refusal::NoNextState);
     }
-    let a = translation::physical(user, fetch, block::pc(b));
-    at_address(b, io, m, access, a)
+    let a = translation::physical(user, fetch, block::pc(core.block));
+    at_address(core, access, a)
 }
 
 fn fetch_request(b: &[u32]) -> Request
@@ -61,38 +57,36 @@ fn fetch_request(b: &[u32]) -> Request
 }
 
 // A fetch by the fetch walk.
-fn by_walk(b: &[u32], io: IoPorts, m: &[u8], fetch: Walk, access: Walk) -> Plan
-    requires sound_beside { SoundBeside b.now m.now }
-    requires b_value { (registers_of b.now).pc % 4 ≡ 0 }
-    ensures { result ≡ settle p.refused (x.fetch (x.view_of b.now) io m.now fetch access) }
+fn by_walk(core: &LentCore, fetch: Walk, access: Walk) -> Result<Plan, Refusal>
+    requires b_value { (registers_of core.now.block.now).pc % 4 ≡ 0 }
+    ensures { result ≡ settle (x.fetch (x.view_of core.now.block.now) core.now.io core.now.memory.now fetch access) }
 {
-    let user = block::user(b);
-    let t = fetch_request(b);
-    if !translation::fits(b, user, t, fetch) {
-        return refused(6);
+    let user = block::user(core.block);
+    let t = fetch_request(core.block);
+    if !translation::fits(core.block, user, t, fetch) {
+        return Err(Refusal::NoNextState);
     }
-    let f = translation::fault(m, user, t, fetch);
+    let f = translation::fault(core.memory, user, t, fetch);
     match f {
-        Faulting::Passes => passed(b, io, m, fetch, access),
+        Faulting::Passes => passed(core, fetch, access),
         Faulting::Faults => {
-            let ca = causes::without(b, false, true);
-            finish::stopped(b, 0, ca, translation::faulted(b, t.va))
+            let ca = causes::without(core.block, false, true);
+            Ok(finish::stopped(core.block, 0, ca, translation::faulted(core.block, t.va)))
         }
-        Faulting::Undecided => refused(7),
+        Faulting::Undecided => Err(Refusal::ByteNowhere),
     }
 }
 
 // A step of a core with the walks of its fetch and of its access.
-pub fn core_step(b: &[u32], io: IoPorts, m: &[u8], fetch: Walk, access: Walk) -> Plan
-    requires { SoundBeside b.now m.now }
-    ensures { result ≡ x.core_plan (x.view_of b.now) io m.now fetch access }
+pub fn core_step(core: &LentCore, fetch: Walk, access: Walk) -> Result<Plan, Refusal>
+    ensures { result ≡ x.core_plan (x.view_of core.now.block.now) core.now.io core.now.memory.now fetch access }
 {
-    if !block::runs(b) {
-        return refused(6);
+    if !block::runs(core.block) {
+        return Err(Refusal::NoNextState);
     }
-    if block::pc(b) % 4 != 0 {
-        let ca = causes::without(b, true, false);
-        return finish::stopped(b, 0, ca, WalkChange::Nothing);
+    if block::pc(core.block) % 4 != 0 {
+        let ca = causes::without(core.block, true, false);
+        return Ok(finish::stopped(core.block, 0, ca, WalkChange::Nothing));
     }
-    by_walk(b, io, m, fetch, access)
+    by_walk(core, fetch, access)
 }

@@ -9,25 +9,6 @@ use apic::local;
 use decode::Instruction;
 use isa::interrupts;
 use steps::Answer;
-use vector_register::Found;
-
-pub fn is_event(e: Found) -> bool
-    ensures { result ≡ x.is_event e }
-{
-    match e {
-        Found::Vector(_) => true,
-        Found::None => false,
-    }
-}
-
-fn vector(e: Found) -> u32
-    ensures { result ≡ x.vector_of e }
-{
-    match e {
-        Found::Vector(k) => k,
-        Found::None => 0,
-    }
-}
 
 fn interrupted(
     b: &[u32],
@@ -41,12 +22,12 @@ fn interrupted(
     requires { length b.now ≡ 256 }
     ensures { result ≡ p.interrupted w read causes (x.vector_of (event b.now)) buffer walks write }
 {
-    let answer = Answer::Interrupt(interrupts::level(causes));
+    let answer = Answer::Interrupt(interrupts::level(causes) as u8);
     let core = CoreChange::Interrupt(Interruption {
         word: w,
         read,
         causes,
-        vector: vector(local::event(b)),
+        vector: u32::from(local::event(b).unwrap_or(0)),
     });
     Plan {
         answer,

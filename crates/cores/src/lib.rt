@@ -1,5 +1,5 @@
-// A step of one core, of its TLB or of its store buffer (kinds 0 to 4): what it decides on shared borrows, and what it then does to the core's
-// block, to memory and to the I/O APIC's ports.
+// A step of one core, of its TLB or of its store buffer (kinds 0 to 4): what it decides on shared borrows, and what it
+// then does to the core's block, to memory and to the I/O APIC's ports.
 #![tactic(auto)]
 
 pub mod access;
@@ -13,6 +13,7 @@ pub mod translation;
 
 ghost use Rattle.std.specs.Prelude.{◌≡◌};
 ghost use Rattle.cores.specs.Plans as x;
+ghost use Rattle.cores.specs.inner.Ready.{SoundBeside};
 
 use decode::Instruction;
 use records::{Flush, Store, Walk};
@@ -25,6 +26,15 @@ pub struct IoPorts {
     pub window: u32,
 }
 
+// What a step of a core reads: its block, the I/O APIC's port words and memory.
+#[derive(Clone, Copy)]
+pub struct LentCore<'a> {
+    pub block: &'a [u32],
+    pub io: IoPorts,
+    pub memory: &'a [u8],
+    pub ghost sound: { SoundBeside block.now memory.now },
+}
+
 // An instruction that was fetched, its word and its masked causes.
 #[derive(Clone, Copy)]
 pub struct Fetched {
@@ -33,7 +43,8 @@ pub struct Fetched {
     pub causes: u32,
 }
 
-// An interrupt at a word that has read something, by its masked causes; the vector is that of the lowest external event.
+// An interrupt at a word that has read something, by its masked causes; the vector is that of the lowest external
+// event.
 #[derive(Clone, Copy)]
 pub struct Interruption {
     pub word: u32,
@@ -42,7 +53,8 @@ pub struct Interruption {
     pub vector: u32,
 }
 
-// Definition 22; an instruction with its word and what it has read. (In a struct these three cost 90 processor instructions a step.)
+// Definition 22; an instruction with its word and what it has read. (In a struct these three cost 90 processor
+// instructions a step.)
 #[derive(Clone, Copy)]
 pub enum CoreChange {
     Nothing,
@@ -51,6 +63,7 @@ pub enum CoreChange {
     Execute(Instruction, u32, u32),
 }
 
+// What becomes of the pending stores, and of the walks. Nothing is one of three cases, so these are no Options.
 #[derive(Clone, Copy)]
 pub enum BufferChange {
     Nothing,
@@ -74,7 +87,7 @@ pub enum Write {
     IoPort(u32, u32),
 }
 
-// What a step answers and does; nothing where it is refused.
+// What a step that is not refused answers and does.
 #[derive(Clone, Copy)]
 pub struct Plan {
     pub answer: Answer,
@@ -82,18 +95,6 @@ pub struct Plan {
     pub buffer: BufferChange,
     pub walks: WalkChange,
     pub write: Write,
-}
-
-pub fn refused(n: u32) -> Plan
-    ensures { result ≡ x.refused n }
-{
-    Plan {
-        answer: Answer::Refused(n),
-        core: CoreChange::Nothing,
-        buffer: BufferChange::Nothing,
-        walks: WalkChange::Nothing,
-        write: Write::Nothing,
-    }
 }
 
 // A step of the TLB or of the store buffer.

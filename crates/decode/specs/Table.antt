@@ -1,5 +1,6 @@
--- Tables 1 to 4 of the report as one table: a row has the opcode, then the function code, rs and rt where they are printed, and the instruction.
--- An instruction is the one whose printed codes all match; a word that matches none is illegal.
+-- Tables 1 to 4 of the report as one table: a row has the opcode, then the function code, rs and rt where they are
+-- printed, and the instruction. An instruction is the one whose printed codes all match; a word that matches none is
+-- illegal.
 -- Assumes nothing.
 use Rattle.std.specs.Prelude.{if◌then◌else◌, Bool, true, ◌&&◌, List, [], ◌∷◌, ◌++◌, ℕ, eqb}
 use Rattle.decode.specs.Fields.{opc, fun, rs, rt}

@@ -1,4 +1,5 @@
-// Instructions, by the sections of tables 1 to 4, and the code that finds a word's.
+// Instructions, by the sections of tables 1 to 4, and the code that finds a word's. An instruction's discriminant is
+// its place in the tables, counted from 0.
 #![tactic(auto)]
 
 pub mod classes;
@@ -7,25 +8,25 @@ pub mod fields;
 ghost use Rattle.std.specs.Prelude.{◌≡◌, ◌<◌};
 ghost use Rattle.decode.specs.Table.{decoded, row_of};
 
-#[derive(Clone, Copy)]
+#[derive(Clone, Copy, Debug, PartialEq, Eq)]
 pub enum Load {
-    Lb,
+    Lb = 0,
     Lh,
     Lw,
     Lbu,
     Lhu,
 }
 
-#[derive(Clone, Copy)]
+#[derive(Clone, Copy, Debug, PartialEq, Eq)]
 pub enum StoreWidth {
-    Sb,
+    Sb = 5,
     Sh,
     Sw,
 }
 
-#[derive(Clone, Copy)]
+#[derive(Clone, Copy, Debug, PartialEq, Eq)]
 pub enum Immediate {
-    Addi,
+    Addi = 8,
     Addiu,
     Slti,
     Sltiu,
@@ -35,9 +36,9 @@ pub enum Immediate {
     Lui,
 }
 
-#[derive(Clone, Copy)]
+#[derive(Clone, Copy, Debug, PartialEq, Eq)]
 pub enum Branch {
-    Bltz,
+    Bltz = 16,
     Bgez,
     Beq,
     Bne,
@@ -45,17 +46,17 @@ pub enum Branch {
     Bgtz,
 }
 
-#[derive(Clone, Copy)]
+#[derive(Clone, Copy, Debug, PartialEq, Eq)]
 pub enum Jump {
-    J,
+    J = 22,
     Jal,
-    Jr,
+    Jr = 46,
     Jalr,
 }
 
-#[derive(Clone, Copy)]
+#[derive(Clone, Copy, Debug, PartialEq, Eq)]
 pub enum Shift {
-    Sll,
+    Sll = 24,
     Srl,
     Sra,
     Sllv,
@@ -63,40 +64,40 @@ pub enum Shift {
     Srav,
 }
 
-#[derive(Clone, Copy)]
+#[derive(Clone, Copy, Debug, PartialEq, Eq)]
 pub enum Move {
-    Mfhi,
+    Mfhi = 30,
     Mthi,
     Mflo,
     Mtlo,
-    Movg2s,
+    Movg2s = 59,
     Movs2g,
 }
 
-#[derive(Clone, Copy)]
+#[derive(Clone, Copy, Debug, PartialEq, Eq)]
 pub enum Multiply {
-    Mult,
+    Mult = 34,
     Multu,
-    Madd,
+    Madd = 53,
     Maddu,
     Mul,
     Msub,
     Msubu,
 }
 
-#[derive(Clone, Copy)]
+#[derive(Clone, Copy, Debug, PartialEq, Eq)]
 pub enum System {
-    Sysc,
+    Sysc = 48,
     Cas,
     Mfence,
     Flush,
     Invlpg,
-    Eret,
+    Eret = 58,
 }
 
-#[derive(Clone, Copy)]
+#[derive(Clone, Copy, Debug, PartialEq, Eq)]
 pub enum Alu {
-    Add,
+    Add = 36,
     Addu,
     Sub,
     Subu,
@@ -108,7 +109,7 @@ pub enum Alu {
     Sltu,
 }
 
-#[derive(Clone, Copy)]
+#[derive(Clone, Copy, Debug, PartialEq, Eq)]
 pub enum Instruction {
     Load(Load),
     Store(StoreWidth),

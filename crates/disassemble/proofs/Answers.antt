@@ -11,17 +11,17 @@ use Rattle.decode.specs.Table.{decoded}
 use Rattle.forms.specs.declared.Form.{Form}
 use Rattle.forms.specs.Syntax.{syntax_of}
 use Rattle.forms.specs.inner.Forms.{form_of}
-use Rattle.disassemble.specs.declared.Disassembled.{Disassembled}
-use Rattle.disassemble.specs.declared.Disassembled.TheVariants.{Length, Refused}
+use Rattle.std.specs.Prelude.{Result, Ok, Err}
+use Rattle.refusals.specs.declared.Refusal.{Refusal}
 use Rattle.disassemble.specs.Disassembly.{disassembly, disassemble_on}
 use Rattle.disassemble.specs.inner.Texts.{form_text}
 use Rattle.disassemble.proofs.Rows.{form_text_lem, text_fits}
 
 -- the answer and the bytes
-abbrev Gives : ℕ → List ℕ → Disassembled → List ℕ → Type 0
+abbrev Gives : ℕ → List ℕ → Result ℕ Refusal → List ℕ → Type 0
 Gives w b a d = (a ≡ (disassemble_on w b).answer) × (d ≡ (disassemble_on w b).bytes)
 
-pub refused : (w : ℕ) (b : List ℕ) → (length b ≡ 32 → ⊥) → Gives w b (Refused 17) b
+pub refused : (w : ℕ) (b : List ℕ) → (length b ≡ 32 → ⊥) → Gives w b (Err Refusal.TextLength) b
 unfolding disassemble_on
 refused w b n = rw (ne_eqb (length b) 32 n) (refl, refl)
 
@@ -35,9 +35,9 @@ form_fits w e = omega (arith, ap length (form_found w e), text_fits w)
 
 pub written :
     {l : Form} {b c d : List ℕ} {n : ℕ} (w : ℕ) → length b ≡ 32 → l ≡ form_of (syntax_of (decoded w)) → Put b 0 (form_text l w) n c
-    → d ≡ take n c ++ replicate (length c - n) 0 → Gives w b (Length n) d
+    → d ≡ take n c ++ replicate (length c - n) 0 → Gives w b (Ok n) d
 unfolding disassemble_on
 written {l} {b} {c} {d} {n} w h f p e =
     let k : n ≡ length (disassembly w) = omega (arith, p.place, ap length (form_found w f)) in
     let z : length c - n ≡ 32 - length (disassembly w) = omega (arith, p.kept) in
-    rw (eq-eqb (length b) 32 h) (ap Length k, e ∙ rw (p.front, form_found w f, z) refl)
+    rw (eq-eqb (length b) 32 h) (ap Ok k, e ∙ rw (p.front, form_found w f, z) refl)

@@ -158,7 +158,8 @@ same_shown n (o ∷ l) v w s e = go (eqb n (field_number o)) refl e (same_shown 
     go true q h r = let z : n ≡ field_number o = eqb-true n (field_number o) q in rw z (sym (field_at_lem o v) ∙ s.0 ∙ field_at_lem o w)
     go false q h r = r h
 
--- ---- the law: words with the same text are of the same row, or both illegal, and equal in every field that the row names
+-- ---- the law: words with the same text are of the same row, or both illegal, and equal in every field that the row
+-- names
 pub text_tells : (v w : ℕ) → disassembly v ≡ disassembly w → (decoded v ≡ decoded w) × SameNamed (decoded v) v w
 unfolding disassembly text_for
 text_tells v w e =

@@ -1,7 +1,7 @@
 -- The text of an instruction word (02): mnemonic and operands as the column 'assembler syntax' of tables 1 to 4 has
 -- them (forms, specs/Syntax).
 -- Assumes nothing.
-use Rattle.std.specs.Prelude.{if◌then◌else◌, not, List, [], ◌∷◌, ◌++◌, ℕ, suc, ◌+◌, ◌-◌, eqb, ℤ, pos, negsuc, length, replicate}
+use Rattle.std.specs.Prelude.{if◌then◌else◌, not, List, [], ◌∷◌, ◌++◌, ℕ, suc, ◌+◌, ◌-◌, eqb, ℤ, pos, negsuc, length, replicate, Result, Ok, Err}
 use Rattle.word.specs.Word.{signed}
 use Rattle.text.specs.Text.{ascii, decimal}
 use Rattle.decode.specs.Fields.{rs, rt, rd, sa, imm, iindex}
@@ -9,8 +9,8 @@ use Rattle.decode.specs.Table.{decoded}
 use Rattle.forms.specs.declared.Operand.{Operand}
 use Rattle.forms.specs.declared.Operand.TheVariants.{Rs, Rt, Rd, Sa, Imm, Uimm, Iindex}
 use Rattle.forms.specs.Syntax.{Syntax, syntax_of}
-use Rattle.disassemble.specs.declared.Disassembled.{Disassembled}
-use Rattle.disassemble.specs.declared.Disassembled.TheVariants.{Length, Refused}
+use Rattle.refusals.specs.declared.Refusal.{Refusal}
+use Rattle.refusals.specs.Numbers.{number}
 
 -- ---- the text
 
@@ -55,18 +55,19 @@ text_for s w = ascii s.mnemonic ++ operands_text s.operands w
 unfoldable pub disassembly : ℕ → List ℕ
 disassembly w = text_for (syntax_of (decoded w)) w
 
--- ---- the operation: the text in a buffer of 32 bytes, zero beyond it, and its length; or 17, and nothing is written
+-- ---- the operation: the text in a buffer of 32 bytes, zero beyond it, and its length; or TextLength (17), and nothing
+-- is written
 
 pub record TextAnswer : Type 0 where
-  pub answer : Disassembled
+  pub answer : Result ℕ Refusal
   pub bytes : List ℕ
 
 unfoldable pub disassemble_on : ℕ → List ℕ → TextAnswer
 disassemble_on w b =
-    if not (eqb (length b) 32) then record { answer = Refused 17; bytes = b }
-    else record { answer = Length (length (disassembly w)); bytes = disassembly w ++ replicate (32 - length (disassembly w)) 0 }
+    if not (eqb (length b) 32) then record { answer = Err Refusal.TextLength; bytes = b }
+    else record { answer = Ok (length (disassembly w)); bytes = disassembly w ++ replicate (32 - length (disassembly w)) 0 }
 
 -- the number for each answer: the length, or 100 and the number of a refusal
-abbrev pub disassembled_number : Disassembled → ℕ
-disassembled_number (Length n) = n
-disassembled_number (Refused n) = 100 + n
+abbrev pub disassembled_number : Result ℕ Refusal → ℕ
+disassembled_number (Ok n) = n
+disassembled_number (Err r) = 100 + number r

@@ -16,7 +16,7 @@ use self::OperandList::{None, One, Three, Two};
 
 // What an instruction's syntax names: a register, the shift amount, the immediate, signed or unsigned, or the jump
 // index.
-#[derive(Clone, Copy)]
+#[derive(Clone, Copy, Debug, PartialEq, Eq)]
 pub enum Operand {
     Rs,
     Rt,
@@ -27,8 +27,8 @@ pub enum Operand {
     Iindex,
 }
 
-// Up to three of them, in the order in which they are shown.
-#[derive(Clone, Copy)]
+// Up to three of them, in the order in which they are shown. An array of options would admit a gap before one.
+#[derive(Clone, Copy, Debug, PartialEq, Eq)]
 pub enum OperandList {
     None,
     One(Operand),
@@ -36,7 +36,8 @@ pub enum OperandList {
     Three(Operand, Operand, Operand),
 }
 
-// How an instruction is shown: its mnemonic, filled up with zeros to six bytes, and its operands.
+// How an instruction is shown: its mnemonic, filled up with zeros to six bytes, and its operands. The fields have no
+// names, so that each row of the tables stands in one line below, as it is printed.
 #[derive(Clone, Copy)]
 pub struct Form(pub [u8; 6], pub OperandList);
 

@@ -1,4 +1,5 @@
--- What a step of the I/O APIC leaves: every word but its own as it was, and words as words. What an EOI message does, entry by entry.
+-- What a step of the I/O APIC leaves: every word but its own as it was, and words as words. What an EOI message does,
+-- entry by entry.
 -- Assumes nothing.
 use Rattle.std.specs.Prelude.{if◌then◌else◌}
 use mathlib.Core.Path.{◌≡◌, refl, sym, ap, ◌∙◌}

@@ -9,20 +9,18 @@ use apic::local::Kind;
 
 // An interrupt from core i reaches its targets.
 fn broadcast(t: &mut [u32], n: u32, i: u32, m: Ipi)
-    requires { (n ≤ 4) × (length t.old ≡ 32 + 256 * n) × (m.vect < 256) }
+    requires { (n ≤ 4) × (length t.old ≡ 32 + 256 * n) }
     ensures { t.new ≡ s.broadcast n i m t.old }
 {
-    let mut j: u32 = 0;
-    while j < n {
+    for j in 0..n {
         let a = layout::block_at(j);
         let e = a + layout::BLOCK_WORDS;
         active::receive(&mut t[a..e], j == i, m);
-        j += 1;
     }
 }
 
 pub fn send_ipi(t: &mut [u32], n: u32, i: u32, m: Ipi)
-    requires { (n ≤ 4) × (length t.old ≡ 32 + 256 * n) × (i < n) × (m.vect < 256) }
+    requires { (n ≤ 4) × (length t.old ≡ 32 + 256 * n) × (i < n) }
     ensures { t.new ≡ s.send_ipi n i m t.old }
 {
     let a = layout::block_at(i);
@@ -31,14 +29,14 @@ pub fn send_ipi(t: &mut [u32], n: u32, i: u32, m: Ipi)
     broadcast(t, n, i, m);
 }
 
-pub fn send_eoi(t: &mut [u32], n: u32, i: u32, v: u32)
-    requires { (n ≤ 4) × (length t.old ≡ 32 + 256 * n) × (i < n) × (v < 256) }
+pub fn send_eoi(t: &mut [u32], n: u32, i: u32, v: u8)
+    requires { (n ≤ 4) × (length t.old ≡ 32 + 256 * n) × (i < n) }
     ensures { t.new ≡ s.send_eoi i v t.old }
 {
     let a = layout::block_at(i);
     let e = a + layout::BLOCK_WORDS;
     active::eoi_sent(&mut t[a..e], v);
-    ports::end(t, v);
+    ports::end(t, u32::from(v));
 }
 
 pub fn deliver(t: &mut [u32], n: u32, k: usize)
@@ -51,7 +49,7 @@ pub fn deliver(t: &mut [u32], n: u32, k: usize)
     let m = Ipi {
         kind: Kind::Fixed,
         target: Target::Id,
-        vect: e % 256,
+        vect: (e % 256) as u8,
         dest: e >> 24,
     };
     broadcast(t, n, 0, m);

@@ -13,10 +13,8 @@ fn select(t: &mut [u32], v: u32)
     requires { (32 ≤ length t.old) × (v < 24) }
     ensures { t.new ≡ s.selected t.old v }
 {
-    let at = layout::REDIRECT + v as usize;
-    let e = t[at];
     t[layout::IOREGSEL] = v;
-    t[layout::IOWIN] = e;
+    t[layout::IOWIN] = t[layout::REDIRECT + v as usize];
 }
 
 fn window(t: &mut [u32], v: u32)
@@ -25,10 +23,7 @@ fn window(t: &mut [u32], v: u32)
 {
     let i = t[layout::IOREGSEL];
     if i < 24 {
-        let at = layout::REDIRECT + i as usize;
-        t[at] = v;
-        t[layout::IOWIN] = v;
-        return;
+        t[layout::REDIRECT + i as usize] = v;
     }
     t[layout::IOWIN] = v;
 }
@@ -40,30 +35,29 @@ pub fn write(t: &mut [u32], a: usize, v: u32)
 {
     if a == 0 {
         select(t, v);
-        return;
+    } else {
+        window(t, v);
     }
-    window(t, v);
 }
 
 fn acknowledged(e: u32, v: u32) -> u32
     ensures { result ≡ s.acknowledged v e }
 {
     if e % 256 == v {
-        return word::put_bit(e, 14, 0);
+        word::put_bit(e, 14, 0)
+    } else {
+        e
     }
-    e
 }
 
-// An EOI message for vector v.
+// An EOI message for vector v. By index, since the definition goes entry by entry.
 pub fn end(t: &mut [u32], v: u32)
     requires { 32 ≤ length t.old }
     ensures { t.new ≡ s.eoi_received t.old v }
 {
-    let mut i = 0;
-    while i < 24 {
+    for i in 0..24 {
         let at = layout::REDIRECT + i;
         t[at] = acknowledged(t[at], v);
-        i += 1;
     }
 }
 
@@ -71,8 +65,7 @@ pub fn may_sample(t: &[u32], k: usize) -> bool
     requires { (32 ≤ length t.now) × (k < 24) }
     ensures { result ≡ s.may_sample t.now k }
 {
-    let at = layout::REDIRECT + k;
-    let e = t[at];
+    let e = t[layout::REDIRECT + k];
     ((t[layout::LINES] >> k) % 2 == 1) & ((e >> 16) % 2 == 0) & ((e >> 14) % 2 == 0)
 }
 
@@ -88,8 +81,7 @@ pub fn may_deliver(t: &[u32], k: usize) -> bool
     requires { (32 ≤ length t.now) × (k < 24) }
     ensures { result ≡ s.may_deliver t.now k }
 {
-    let at = layout::REDIRECT + k;
-    (t[at] >> 12) % 2 == 1
+    (t[layout::REDIRECT + k] >> 12) % 2 == 1
 }
 
 // The entry after its interrupt has been sent.

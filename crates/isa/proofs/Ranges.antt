@@ -1,7 +1,7 @@
 -- Predicates on instructions by their numbers: each is tested on every row of the tables.
 -- Assumes nothing.
 use Rattle.std.specs.Prelude.{if◌then◌else◌}
-use mathlib.Core.Path.{◌≡◌, sym, ◌∙◌, refl}
+use mathlib.Core.Path.{◌≡◌, sym, ap, ◌∙◌, refl}
 use mathlib.Core.Bool.{Bool, false, not, ◌&&◌, ◌||◌}
 use Prim.Native.Nat.{ℕ, ◌<◌, ◌+◌, ◌*◌, ◌/◌, ◌%◌, ◌^◌}
 use lib.Dec.{eqb, ltb}
@@ -9,7 +9,16 @@ use native.Mathlib.Omega.{arith}
 use borrow.Author.Tests.{eqb-true, ne_eqb, le-ltb}
 use Rattle.word.specs.Word.{is_set, flag, sxt}
 use Rattle.word.proofs.Tests.{and_false, truth}
-use Rattle.decode.specs.declared.System.TheVariants.{Cas}
+use Rattle.decode.specs.declared.System.{System}
+use Rattle.decode.specs.declared.System.TheVariants.{Cas, Flush, Invlpg, Eret}
+use Rattle.decode.specs.declared.Load.{Load}
+use Rattle.decode.specs.declared.Load.TheVariants.{Lb, Lh, Lw, Lbu, Lhu}
+use Rattle.decode.specs.declared.StoreWidth.{StoreWidth}
+use Rattle.decode.specs.declared.StoreWidth.TheVariants.{Sb, Sh, Sw}
+use Rattle.decode.specs.declared.Move.{Move}
+use Rattle.decode.specs.declared.Move.TheVariants.{Movg2s, Movs2g}
+use Rattle.decode.specs.contracts.SystemPartialEq.TheImpl.{ghosts as system}
+use Rattle.decode.specs.contracts.MovePartialEq.TheImpl.{ghosts as move}
 use Rattle.decode.specs.declared.Instruction.{Instruction}
 use Rattle.decode.specs.Mnemonics.{number, rtype, ill, sysc, lw, lh, lhu, sh, sw, cas, movg2s, movs2g, eret, flush, invlpg}
 use Rattle.decode.proofs.Numbers.{every}
@@ -19,6 +28,69 @@ use Rattle.units.proofs.Overflows.{overflow_number}
 use Rattle.isa.specs.Core.{d, mal, lv}
 use Rattle.isa.specs.Interrupts.{privileged, mca}
 use Rattle.isa.specs.inner.Outcomes.{rop_by, ea_by, ovf_by, events_by}
+
+-- the widths of accesses as the code finds them
+abbrev pub load_width : Load → ℕ
+load_width Lb = 1
+load_width Lh = 2
+load_width Lw = 4
+load_width Lbu = 1
+load_width Lhu = 2
+
+abbrev pub store_width : StoreWidth → ℕ
+store_width Sb = 1
+store_width Sh = 2
+store_width Sw = 4
+
+abbrev width_shape : Instruction → ℕ
+width_shape (Instruction.Load l) = load_width l
+width_shape (Instruction.Store s) = store_width s
+width_shape (Instruction.System t) = if system.eq t Cas then 4 else 0
+width_shape _ = 0
+
+width_same : (i : Instruction) → width_shape i ≡ d i
+unfolding d cas
+width_same i =
+    eqb-true (width_shape i) (d i)
+    (truth (eqb (width_shape i) (d i)) (every (λ (j : Instruction). eqb (width_shape j) (d j)) tt i))
+
+pub load_wide : (i : Instruction) (l : Load) → i ≡ Instruction.Load l → load_width l ≡ d i
+load_wide i l e = ap width_shape (sym e) ∙ width_same i
+
+pub store_wide : (i : Instruction) (s : StoreWidth) → i ≡ Instruction.Store s → store_width s ≡ d i
+store_wide i s e = ap width_shape (sym e) ∙ width_same i
+
+pub system_wide : (i : Instruction) (t : System) (r : Bool) → i ≡ Instruction.System t → system.eq t Cas ≡ r → (if r then 4 else 0) ≡ d i
+system_wide i t r e f = ap (λ (x : Bool). if x then 4 else 0) (sym f) ∙ ap width_shape (sym e) ∙ width_same i
+
+pub not_wide : (i : Instruction) → ((l : Load) → i ≡ Instruction.Load l → ⊥) → ((s : StoreWidth) → i ≡ Instruction.Store s → ⊥) →
+    ((t : System) → i ≡ Instruction.System t → ⊥) → 0 ≡ d i
+not_wide i f g h = go i f g h ∙ width_same i
+  where
+    go : (i : Instruction) → ((l : Load) → i ≡ Instruction.Load l → ⊥) → ((s : StoreWidth) → i ≡ Instruction.Store s → ⊥) →
+        ((t : System) → i ≡ Instruction.System t → ⊥) → 0 ≡ width_shape i
+    go (Instruction.Load l) f g h = absurd (f l refl)
+    go (Instruction.Store s) f g h = absurd (g s refl)
+    go (Instruction.System t) f g h = absurd (h t refl)
+    go _ f g h = refl
+
+-- the privileged instructions as the code finds them
+abbrev pub privileged_shape : Instruction → Bool
+privileged_shape (Instruction.System t) = system.eq t Flush || system.eq t Invlpg || system.eq t Eret
+privileged_shape (Instruction.Move t) = move.eq t Movg2s || move.eq t Movs2g
+privileged_shape _ = false
+
+pub privileged_same : (i : Instruction) → privileged_shape i ≡ privileged i
+unfolding privileged movg2s movs2g eret flush invlpg
+privileged_same = agree privileged_shape privileged tt
+
+pub not_privileged : (i : Instruction) → ((t : System) → i ≡ Instruction.System t → ⊥) → ((t : Move) → i ≡ Instruction.Move t → ⊥) → false ≡ privileged i
+not_privileged i f g = go i f g ∙ privileged_same i
+  where
+    go : (i : Instruction) → ((t : System) → i ≡ Instruction.System t → ⊥) → ((t : Move) → i ≡ Instruction.Move t → ⊥) → false ≡ privileged_shape i
+    go (Instruction.System t) f g = absurd (f t refl)
+    go (Instruction.Move t) f g = absurd (g t refl)
+    go _ f g = refl
 
 pub privileged_range : (i : Instruction) → ((ltb 50 (number i) && ltb (number i) 53) || (ltb 57 (number i) && ltb (number i) 61)) ≡ privileged i
 unfolding privileged movg2s movs2g eret flush invlpg

@@ -1,5 +1,5 @@
--- Execution of an instruction on a core's registers (6.1.2 to 6.2). An instruction I is given as i, the instruction of its row in
--- tables 1 to 4, and w, its word.
+-- Execution of an instruction on a core's registers (6.1.2 to 6.2). An instruction I is given as i, the instruction of
+-- its row in tables 1 to 4, and w, its word.
 -- Assumes nothing.
 use Rattle.std.specs.Prelude.{if◌then◌else◌, Bool, not, ◌&&◌, ◌||◌, List, ℕ, ◌+◌, ◌*◌, ◌/◌, ◌%◌, ◌^◌, eqb, get_or, set}
 use Rattle.word.specs.Word.{is_set, plus, sxt, sll}

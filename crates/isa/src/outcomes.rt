@@ -1,4 +1,5 @@
-// What an instruction makes of the few registers that it reads: how execute, and an interrupt that completes its instruction, are built.
+// What an instruction makes of the few registers that it reads: how execute, and an interrupt that completes its
+// instruction, are built.
 ghost use Rattle.std.specs.Prelude.{◌≡◌, true, false, ◌<◌, ◌/◌, ◌*◌, ◌%◌, ◌+◌, ◌^◌};
 ghost use Rattle.decode.specs.Fields as f;
 ghost use Rattle.units.specs.Shift.{sures, sf};
@@ -19,7 +20,8 @@ pub struct Operands {
     pub lo: u32,
 }
 
-// The general register to write, 0 for none, and its value; the next pc, HI and LO; and whether special register rd gets general register rt.
+// The general register to write, 0 for none, and its value; the next pc, HI and LO; and whether special register rd
+// gets general register rt.
 #[derive(Clone, Copy)]
 pub struct Outcome {
     pub n: u32,
@@ -34,8 +36,8 @@ fn loaded(l: Load, read: u32) -> u32
     ensures { result ≡ x.lv (Instruction.Load l) read }
 {
     match l {
-        Load::Lb => word::extend_byte(read % 256),
-        Load::Lh => word::extend_half(read % 0x1_0000),
+        Load::Lb => word::extend::<8>(read % 256),
+        Load::Lh => word::extend::<16>(read % 0x1_0000),
         Load::Lw => read,
         Load::Lbu => read % 256,
         Load::Lhu => read % 0x1_0000,
@@ -51,7 +53,7 @@ pub fn right_operand(rtype: bool, w: u32, q: u32) -> u32
     }
     let v = fields::imm(w);
     if !((w >> 28) % 2 == 1) {
-        return word::extend_half(v);
+        return word::extend::<16>(v);
     }
     v
 }
@@ -189,7 +191,7 @@ impl Operands {
         ensures { result ≡ s.branch_by w self }
     {
         if branch::taken(self.p, self.q, branch::control(w)) {
-            let far = word::shift_left(word::extend_half(fields::imm(w)), 2);
+            let far = word::shift_left(word::extend::<16>(fields::imm(w)), 2);
             return word::add(self.pc, far);
         }
         self.after()

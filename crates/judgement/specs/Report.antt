@@ -1,6 +1,6 @@
 -- What is said of a group: the report, or the one line of a refusal.
 -- Assumes nothing.
-use Rattle.std.specs.Prelude.{if◌then◌else◌, Bool, ◌&&◌, not, List, [], ◌∷◌, ◌++◌, ℕ, eqb}
+use Rattle.std.specs.Prelude.{if◌then◌else◌, Bool, true, false, ◌&&◌, not, List, [], ◌∷◌, ◌++◌, ℕ, eqb, Result, Ok, Err}
 use Rattle.word.specs.Word.{is_set}
 use Rattle.layout.specs.Blocks.{block}
 use Rattle.text.specs.Text.{ascii, decimal}
@@ -8,8 +8,8 @@ use Rattle.tables.specs.Views.{cores_of, runs}
 use Rattle.reach.specs.Lists.{range, select}
 use Rattle.reach.specs.Reach.{members, map_for}
 use Rattle.separation.specs.Apart.{rest, apart_on}
-use Rattle.separation.specs.declared.Verdict.{Verdict}
-use Rattle.separation.specs.declared.Verdict.TheVariants.{No, Yes, Refused}
+use Rattle.refusals.specs.declared.Refusal.{Refusal}
+use Rattle.refusals.specs.Numbers.{number}
 use Rattle.picture.specs.Pages.{picture}
 use Rattle.picture.specs.Lines.{cores_text, side_text, legend_text}
 use Rattle.reason_lines.specs.Reasons.{reason_lines}
@@ -53,10 +53,10 @@ abbrev pub closing_text : ℕ → List ℕ → List ℕ → List ℕ
 closing_text g t words = stopped_text (not_judged g t) ++ words
 
 -- what is said of a verdict; there are at most six reasons
-unfoldable pub said_of : Verdict → ℕ → List ℕ → List ℕ → List ℕ
-said_of (Refused n) g t m = refused_text n
-said_of Yes g t m = sides_text g t m ++ closing_text g t (ascii "apart\n")
-said_of No g t m = sides_text g t m ++ reason_lines 6 0 g t m ++ closing_text g t (ascii "not apart\n")
+unfoldable pub said_of : Result Bool Refusal → ℕ → List ℕ → List ℕ → List ℕ
+said_of (Err r) g t m = refused_text (number r)
+said_of (Ok true) g t m = sides_text g t m ++ closing_text g t (ascii "apart\n")
+said_of (Ok false) g t m = sides_text g t m ++ reason_lines 6 0 g t m ++ closing_text g t (ascii "not apart\n")
 
 -- the report on the group g of the machine with tables t and memory m
 unfoldable pub report_text : ℕ → List ℕ → List ℕ → List ℕ

@@ -1,6 +1,7 @@
 -- The steps of a run leave what as many single steps leave as its count says, and one more where a step was refused.
 -- Assumes nothing.
-use Rattle.std.specs.Prelude.{if◌then◌else◌}
+use Rattle.std.specs.Prelude.{if◌then◌else◌, Result, Ok, Err}
+use Rattle.refusals.specs.declared.Refusal.{Refusal}
 use mathlib.Core.Path.{◌≡◌, refl, sym, ◌∙◌, ap}
 use mathlib.Core.Bool.{Bool, true, false}
 use mathlib.Core.List.{List}
@@ -11,9 +12,8 @@ use native.Mathlib.Omega.{arith}
 use Rattle.steps.specs.declared.Answer.{Answer}
 use Rattle.machine.specs.declared.run.Stop.{Stop}
 use Rattle.machine.specs.declared.run.Stop.TheVariants as stop
-use Rattle.machine.specs.Step.{is_accepted, Stepped, step}
-use Rattle.machine.specs.Run.{Result, stops_with, stop_of, run_from}
-use Rattle.machine.proofs.Taking.{by_test, by_refused}
+use Rattle.machine.specs.Step.{Stepped, step}
+use Rattle.machine.specs.Run.{RunResult, stops_with, on_answer, run_from}
 
 -- the tables and the memory after the first k steps of a schedule, each a single step
 pub tables_by : ℕ → List ℕ → List ℕ → List ℕ → List ℕ
@@ -31,7 +31,7 @@ steps_of stop.End d = d
 steps_of stop.Limit d = d
 
 -- r is d accepted steps beyond n, from t and m
-pub record Counts (s t m : List ℕ) (n : ℕ) (r : Result) : Type 0 where
+pub record Counts (s t m : List ℕ) (n : ℕ) (r : RunResult) : Type 0 where
   pub done : ℕ
   pub count : r.accepted ≡ n + done
   pub same_tables : r.tables ≡ tables_by (steps_of r.why done) s t m
@@ -51,7 +51,7 @@ module _ (s t m : List ℕ) (n : ℕ) where
         same_memory = ap (λ (k : ℕ). memory_by k s t m) (sym e);
       }
 
-  one_more : {r : Result} → Counts (drop 6 s) next.tables next.memory (n + 1) r → Counts s t m n r
+  one_more : {r : RunResult} → Counts (drop 6 s) next.tables next.memory (n + 1) r → Counts s t m n r
   unfolding tables_by memory_by
   one_more {r} C =
       record {
@@ -66,14 +66,13 @@ module _ (s t m : List ℕ) (n : ℕ) where
       later stop.End d = refl
       later stop.Limit d = refl
 
-  by_answer : (a : Answer) {r : Result} → Counts (drop 6 s) next.tables next.memory (n + 1) r →
-      Counts s t m n (if is_accepted a then r else stops_with n (stop_of a) next.tables next.memory)
+  by_answer : (a : Result Answer Refusal) {r : RunResult} → Counts (drop 6 s) next.tables next.memory (n + 1) r →
+      Counts s t m n (on_answer a n next.tables next.memory r)
   unfolding tables_by memory_by
-  by_answer a {r} C =
-      by_test (Counts s t m n) (is_accepted a) r _ (λ _. one_more C)
-      (by_refused (λ (x : Answer). Counts s t m n (stops_with n (stop_of x) next.tables next.memory)) (λ x. record { done = 0; count = omega arith; same_tables = refl; same_memory = refl }) a)
+  by_answer (Ok a) C = one_more C
+  by_answer (Err x) C = record { done = 0; count = omega arith; same_tables = refl; same_memory = refl }
 
-  by_limit : (b : Bool) {r : Result} → Counts s t m n r → Counts s t m n (if b then stops_with n stop.Limit t m else r)
+  by_limit : (b : Bool) {r : RunResult} → Counts s t m n r → Counts s t m n (if b then stops_with n stop.Limit t m else r)
   by_limit true C = ended stop.Limit refl
   by_limit false C = C
 

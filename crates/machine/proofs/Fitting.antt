@@ -19,10 +19,8 @@ use Rattle.tables.proofs.Lift.{header, core_fits, core_sound, bytes_divide}
 use Rattle.steps.specs.Form.{word, count_at}
 use Rattle.steps.proofs.Whose.{by_count}
 use Rattle.apic.specs.declared.active.Ipi.{Ipi}
-use Rattle.cores.specs.declared.Plan.{Plan}
-use Rattle.cores.specs.inner.Ready.{ready, fits}
 use Rattle.machine.specs.declared.action.Action.{Action}
-use Rattle.machine.specs.declared.action.Action.TheVariants.{Planned, SendIpi, SendEoi, InitCore, StartCore, Sample, Deliver, SetLine}
+use Rattle.machine.specs.declared.action.Action.TheVariants.{SendIpi, SendEoi, InitCore, StartCore, Sample, Deliver, SetLine}
 use Rattle.machine.specs.inner.Doable.{doable}
 use Rattle.word.proofs.Truth.{and_left, and_right}
 
@@ -47,15 +45,9 @@ module _ (t : List ℕ) (n : ℕ) (e : sound t n ≡ true) where
     pub chains : linked (block t k) ≡ true
     chains = block_linked n (block t k) (core_sound t n e k (ltb-true k (cores_of t) h))
 
-module _ {x : Action} (n c : ℕ) (t : List ℕ) (d : doable n c x t ≡ true) where
-  when : (y : Action) → x ≡ y → doable n c y t ≡ true
-  when y p = subst (λ z. doable n c z t ≡ true) p d
-
-  pub planned_asks : (k : ℕ) (p : Plan) → x ≡ Planned k p → (ltb k n ≡ true) × (ready p (block t k) ≡ true) × (fits p.write c ≡ true)
-  unfolding doable
-  planned_asks k p q =
-      let f = when (Planned k p) q in
-      let g = and_right (ltb k n) _ f in (and_left (ltb k n) _ f, and_left (ready p (block t k)) _ g, and_right (ready p (block t k)) _ g)
+module _ {x : Action} (n : ℕ) (d : doable n x ≡ true) where
+  when : (y : Action) → x ≡ y → doable n y ≡ true
+  when y p = subst (λ z. doable n z ≡ true) p d
 
   pub ipi_asks : (k : ℕ) (i : Ipi) → x ≡ SendIpi k i → (ltb k n ≡ true) × (i.vect < 256)
   unfolding doable

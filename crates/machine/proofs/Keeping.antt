@@ -1,6 +1,9 @@
--- Sound tables stay sound under every step, and keep their length; memory keeps its length; a refusal moves nothing but its count.
+-- Sound tables stay sound under every step, and keep their length; memory keeps its length; a refusal moves nothing but
+-- its count.
 -- Assumes nothing.
-use Rattle.std.specs.Prelude.{if◌then◌else◌}
+use Rattle.std.specs.Prelude.{if◌then◌else◌, Result, Ok, Err, IfOk, is_ok}
+use Rattle.refusals.specs.declared.Refusal.{Refusal}
+use Rattle.refusals.specs.declared.Refusal.TheVariants.{Unsound}
 use mathlib.Core.Path.{◌≡◌, refl, ◌∙◌, ap, subst}
 use mathlib.Core.Logic.{inl, inr}
 use mathlib.Core.Bool.{Bool, true, false}
@@ -32,20 +35,18 @@ use Rattle.apic.proofs.Kept.{Kept, Passive, Reset, kept_all, kept_if, kept_vecto
 use Rattle.ioapic.specs.Blocks.{on_block, on_blocks}
 use Rattle.ioapic.specs.IoApic.{entry, with_entry, dest, vect, rirr, ds, on_entries, acknowledged, eoi_received, sampled, handed}
 use Rattle.ioapic.specs.Bus.{broadcast, send_ipi, send_eoi, deliver}
-use Rattle.steps.specs.declared.Answer.{Answer}
-use Rattle.steps.specs.declared.Answer.TheVariants as answer
 use Rattle.steps.specs.Form.{word, count_at}
 use Rattle.steps.proofs.Whose.{by_count}
 use Rattle.cores.specs.declared.Plan.{Plan}
 use Rattle.cores.specs.Commit as cores
-use Rattle.cores.proofs.Decisions.{MayBeDone}
+use Rattle.cores.proofs.Decisions.{PlanMayBeDone}
 use Rattle.cores.proofs.Locals.{tables_long, tables_own, tables_other, tables_local, written_long, plan_long, plan_count, plan_sound}
-use Rattle.machine.specs.declared.action.Action.{Action}
-use Rattle.machine.specs.declared.action.Action.TheVariants.{Refused, Planned, SendIpi, SendEoi, InitCore, StartCore, Sample, Deliver, SetLine}
-use Rattle.machine.specs.Actions.{line_set, answer_of, tables_after, memory_after}
+use Rattle.machine.specs.declared.action.Action.TheVariants.{SendIpi, SendEoi, InitCore, StartCore, Sample, Deliver, SetLine}
+use Rattle.machine.specs.Actions.{Effect, Planned, Acts, line_set, tables_after, memory_after}
 use Rattle.machine.specs.Decide.{decided}
-use Rattle.machine.specs.Step.{is_accepted, one_more, counted, after, taken, step}
-use Rattle.machine.proofs.Taking.{by_test}
+use Rattle.machine.specs.Step.{one_more, counted, after, taken, step}
+use Rattle.std.proofs.lemmas.Result.{IfOk-weaker}
+use Rattle.word.proofs.Tests.{true_false}
 use Rattle.machine.proofs.Deciding.{Able, decided_able}
 
 -- ---- what keeps tables sound
@@ -77,7 +78,8 @@ keeps_then p q =
 keeps_stays : {n : ℕ} {t u : List ℕ} → Keeps n t u → Stays n t u
 keeps_stays K = record { long = K.long; cores = K.cores; is_sound = K.is_sound }
 
--- a block of which these words stay, and the rest within their ranges: general register 0, the heads, the zeros and the records
+-- a block of which these words stay, and the rest within their ranges: general register 0, the heads, the zeros and the
+-- records
 kept_sound : (P : ℕ → Type 0) → P 0 → ((i : ℕ) → 68 ≤ i → i ≤ 71 → P i) → ((i : ℕ) → 114 < i → P i) →
     (n : ℕ) (b c : List ℕ) → Kept P b c → sound_block n b ≡ true → sound_block n c ≡ true
 kept_sound P zero_in heads-in rest_in n b c K e =
@@ -240,22 +242,15 @@ module _ (t : List ℕ) (n : ℕ) (e : sound t n ≡ true) where
 
 -- ---- memory keeps its length
 
-pub memory_long : (a : Action) (m : List ℕ) → length (memory_after a m) ≡ length m
+pub memory_long : (a : Effect) (m : List ℕ) → length (memory_after a m) ≡ length m
 unfolding memory_after
-memory_long (Refused n) m = refl
 memory_long (Planned k p) m = written_long p.write m
-memory_long (SendIpi k i) m = refl
-memory_long (SendEoi k v) m = refl
-memory_long (InitCore k) m = refl
-memory_long (StartCore k) m = refl
-memory_long (Sample l) m = refl
-memory_long (Deliver l) m = refl
-memory_long (SetLine l v) m = refl
+memory_long (Acts a) m = refl
 
 -- ---- the action that is decided
 
 module _ (t m : List ℕ) (e : sound t (length m) ≡ true) where
-  plan_keeps : (k : ℕ) (p : Plan) → k < cores_of t → MayBeDone (length m) (block t k) p → Keeps (length m) t (cores.tables_by_plan k p t)
+  plan_keeps : (k : ℕ) (p : Plan) → k < cores_of t → PlanMayBeDone (length m) (block t k) p → Keeps (length m) t (cores.tables_by_plan k p t)
   plan_keeps k p l D =
       let fits = core_fits t (length m) e k l in
       let long = plan_long t m k p e l D in
@@ -269,45 +264,46 @@ module _ (t m : List ℕ) (e : sound t (length m) ≡ true) where
         is_sound = subst (λ (n : ℕ). sound (cores.tables_by_plan k p t) n ≡ true) (written_long p.write m) (plan_sound t m k p e l D);
       }
 
-  action_keeps : (a : Action) → Able t m a → Keeps (length m) t (tables_after a t)
+  action_keeps : (a : Effect) → Able t m a → Keeps (length m) t (tables_after a t)
   unfolding tables_after
-  action_keeps (Refused n) A = keeps_all (length m) t e
   action_keeps (Planned k p) A = plan_keeps k p A.0 A.1
-  action_keeps (SendIpi k i) A = ipi_keeps t (length m) e k i A.0 A.1
-  action_keeps (SendEoi k v) A = eoi_keeps t (length m) e k v A.0 A.1
-  action_keeps (InitCore k) A = init_keeps t (length m) e k A
-  action_keeps (StartCore k) A = start_keeps t (length m) e k A
-  action_keeps (Sample l) A = sample_keeps t (length m) e l A
-  action_keeps (Deliver l) A = deliver_keeps t (length m) e l A
-  action_keeps (SetLine l v) A = line_keeps t (length m) e l v A.0 A.1
+  action_keeps (Acts (SendIpi k i)) A = ipi_keeps t (length m) e k i A.0 A.1
+  action_keeps (Acts (SendEoi k v)) A = eoi_keeps t (length m) e k v A.0 A.1
+  action_keeps (Acts (InitCore k)) A = init_keeps t (length m) e k A
+  action_keeps (Acts (StartCore k)) A = start_keeps t (length m) e k A
+  action_keeps (Acts (Sample l)) A = sample_keeps t (length m) e l A
+  action_keeps (Acts (Deliver l)) A = deliver_keeps t (length m) e l A
+  action_keeps (Acts (SetLine l v)) A = line_keeps t (length m) e l v A.0 A.1
 
   module _ (ws : Words t) (bs : Bytes m) where
-    pub decided_keeps : (s : List ℕ) → Keeps (length m) t (tables_after (decided t m s) t)
-    decided_keeps s = action_keeps (decided t m s) (decided_able t m e ws bs s)
+    pub decided_keeps : (s : List ℕ) → IfOk (decided t m s) (λ x. Keeps (length m) t (tables_after x t))
+    decided_keeps s = IfOk-weaker (decided t m s) (Able t m) (λ x. Keeps (length m) t (tables_after x t)) action_keeps (decided_able t m e ws bs s)
 
 -- ---- a step
 
-after_long : (s : List ℕ) (r : Answer) (a : Action) (t m : List ℕ) → length (after s r a t m).memory ≡ length m
+after_long : (s : List ℕ) (d : Result Effect Refusal) (t m : List ℕ) → length (after s d t m).memory ≡ length m
 unfolding after
-after_long s r a t m = by_test (λ (n : List ℕ). length n ≡ length m) (is_accepted r) (memory_after a m) m (λ _. memory_long a m) (λ _. refl)
+after_long s (Ok x) t m = memory_long x m
+after_long s (Err r) t m = refl
 
-after_keeps : (n : ℕ) (s : List ℕ) (r : Answer) (a : Action) (t m : List ℕ) → sound t n ≡ true → Keeps n t (tables_after a t) → Stays n t (after s r a t m).tables
+after_keeps : (n : ℕ) (s : List ℕ) (d : Result Effect Refusal) (t m : List ℕ) → sound t n ≡ true → IfOk d (λ x. Keeps n t (tables_after x t)) → Stays n t (after s d t m).tables
 unfolding after
-after_keeps n s r a t m e K = by_test (Stays n t) (is_accepted r) (tables_after a t) (counted s t) (λ _. keeps_stays K) (λ _. counted_keeps t n e s)
+after_keeps n s (Ok x) t m e K = keeps_stays K
+after_keeps n s (Err r) t m e K = counted_keeps t n e s
 
 -- memory, whatever the tables are
 pub step_long : (t m s : List ℕ) → length (step t m s).memory ≡ length m
 unfolding step taken
 step_long t m s = go (sound t (length m))
   where
-    go : (b : Bool) → length (if b then taken t m s else record { answer = answer.Refused 4; tables = t; memory = m }).memory ≡ length m
-    go true = after_long s (answer_of (decided t m s)) (decided t m s) t m
+    go : (b : Bool) → length (if b then taken t m s else record { answer = Err Unsound; tables = t; memory = m }).memory ≡ length m
+    go true = after_long s (decided t m s) t m
     go false = refl
 
 pub step_keeps : (t m s : List ℕ) → sound t (length m) ≡ true → Words t → Bytes m → Stays (length m) t (step t m s).tables
 unfolding step taken
 step_keeps t m s e ws bs =
-    rw e (after_keeps (length m) s (answer_of (decided t m s)) (decided t m s) t m e (decided_keeps t m e ws bs s))
+    rw e (after_keeps (length m) s (decided t m s) t m e (decided_keeps t m e ws bs s))
 
 pub step_sound : (t m s : List ℕ) → sound t (length m) ≡ true → Words t → Bytes m → sound (step t m s).tables (length (step t m s).memory) ≡ true
 step_sound t m s e ws bs = ap (sound (step t m s).tables) (step_long t m s) ∙ (step_keeps t m s e ws bs).is_sound
@@ -331,21 +327,22 @@ counted_only s t = go (ltb (get_or t (count_at (cores_of t) s) 0) (2 ^ 32 - 1))
         }
     go false = record { long = refl; same = λ i d. refl }
 
-after_refused : (s : List ℕ) (r : Answer) (a : Action) (t m : List ℕ) (n : ℕ) → (after s r a t m).answer ≡ answer.Refused n → ((after s r a t m).memory ≡ m) × CountOnly s t (after s r a t m).tables
+after_refused : (s : List ℕ) (d : Result Effect Refusal) (t m : List ℕ) (r : Refusal) → (after s d t m).answer ≡ Err r → ((after s d t m).memory ≡ m) × CountOnly s t (after s d t m).tables
 unfolding after
-after_refused s r a t m n e = rw e (refl, counted_only s t)
+after_refused s (Ok x) t m r e = absurd (true_false (ap is_ok e))
+after_refused s (Err q) t m r e = (refl, counted_only s t)
 
 -- memory stays, and the tables but for the count, on sound tables and on others
-pub refused_count : (t m s : List ℕ) (n : ℕ) → (step t m s).answer ≡ answer.Refused n → ((step t m s).memory ≡ m) × CountOnly s t (step t m s).tables
+pub refused_count : (t m s : List ℕ) (r : Refusal) → (step t m s).answer ≡ Err r → ((step t m s).memory ≡ m) × CountOnly s t (step t m s).tables
 unfolding step taken
-refused_count t m s n = go (sound t (length m))
+refused_count t m s r = go (sound t (length m))
   where
     go : (b : Bool) →
-        (if b then taken t m s else record { answer = answer.Refused 4; tables = t; memory = m }).answer ≡ answer.Refused n →
-        ((if b then taken t m s else record { answer = answer.Refused 4; tables = t; memory = m }).memory ≡ m) × CountOnly s t (if b then taken t m s else record { answer = answer.Refused 4; tables = t; memory = m }).tables
-    go true e = after_refused s (answer_of (decided t m s)) (decided t m s) t m n e
+        (if b then taken t m s else record { answer = Err Unsound; tables = t; memory = m }).answer ≡ Err r →
+        ((if b then taken t m s else record { answer = Err Unsound; tables = t; memory = m }).memory ≡ m) × CountOnly s t (if b then taken t m s else record { answer = Err Unsound; tables = t; memory = m }).tables
+    go true e = after_refused s (decided t m s) t m r e
     go false e = (refl, record { long = refl; same = λ i d. refl })
 
-pub refused_leaves : (t m s : List ℕ) (n : ℕ) → (step t m s).answer ≡ answer.Refused n →
+pub refused_leaves : (t m s : List ℕ) (r : Refusal) → (step t m s).answer ≡ Err r →
     ((step t m s).memory ≡ m) × ((i : ℕ) → (i ≡ count_at (cores_of t) s → ⊥) → get_or (step t m s).tables i 0 ≡ get_or t i 0)
-refused_leaves t m s n e = let R = refused_count t m s n e in (R.0, R.1.same)
+refused_leaves t m s r e = let R = refused_count t m s r e in (R.0, R.1.same)

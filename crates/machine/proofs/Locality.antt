@@ -4,8 +4,11 @@
 -- header and one aligned run of memory bytes; where it is refused, one count of refusals alone, its core's, or the
 -- header's where the words are not six. (A store to IOREGSEL reads the redirect entry that it selects.)
 -- Assumes nothing.
-use Rattle.std.specs.Prelude.{if◌then◌else◌}
-use mathlib.Core.Path.{◌≡◌, refl, sym, ap, subst, ◌∙◌}
+use Rattle.std.specs.Prelude.{if◌then◌else◌, Option, Some, None, Result, Ok, Err}
+use Rattle.std.specs.Bool.{then_some}
+use Rattle.refusals.specs.declared.Refusal.{Refusal}
+use Rattle.refusals.specs.declared.Refusal.TheVariants.{NotAStep}
+use mathlib.Core.Path.{◌≡◌, refl, sym, ap, ◌∙◌}
 use mathlib.Core.Logic.{◌⊎◌, inl, ◌≢◌, ⊎_elim}
 use mathlib.Core.Bool.{Bool, true, false, ◌&&◌}
 use mathlib.Core.List.{List}
@@ -25,83 +28,82 @@ use Rattle.records.specs.Records.{stores, walks}
 use Rattle.tables.specs.Views.{cores_of}
 use Rattle.tables.specs.Sound.{sound}
 use Rattle.tables.proofs.Lift.{core_fits, core_sound}
-use Rattle.steps.specs.declared.Answer.{Answer}
-use Rattle.steps.specs.declared.Answer.TheVariants as answer
 use Rattle.steps.specs.declared.Step.{Step}
-use Rattle.steps.specs.declared.Step.TheVariants as kind
-use Rattle.steps.specs.Form.{step_of, or_not, step_of_core, step_of_line, word, zero2, zero3, zero4, zero5, line_count, names_core, count_at}
+use Rattle.steps.specs.declared.Step.TheVariants.{ByProcessor}
+use Rattle.steps.specs.declared.ProcessorStep.TheVariants.{Core, TlbCreate, TlbExtend, TlbAccessed, StoreBuffer}
+use Rattle.steps.specs.Form.{step_of, step_of_core, step_of_line, word, zero_from, line_count, names_core, count_at}
 use Rattle.steps.proofs.Whose.{by_count}
 use Rattle.tlb.specs.Steps.{create_on, extend_on, accessed_on}
 use Rattle.cores.specs.Core as core
 use Rattle.cores.specs.TlbSteps.{planned}
 use Rattle.cores.specs.BufferStep.{buffer_step}
-use Rattle.cores.specs.Plans.{refused}
 use Rattle.cores.specs.Commit as commit
 use Rattle.cores.specs.declared.IoPorts.{IoPorts}
 use Rattle.cores.specs.declared.Plan.{Plan}
-use Rattle.cores.proofs.Decisions.{MayBeDone, may_be_done, refused_doable, create_plan, extend_plan, accessed_plan, drain_plan}
+use Rattle.cores.proofs.Decisions.{MayBeDone, create_plan, extend_plan, accessed_plan, drain_plan}
 use Rattle.cores.proofs.Executions.{core_plan_lem}
 use Rattle.cores.proofs.Locals.{Run, plan_long, plan_sound, plan_memory, tables_own, tables_other, tables_local}
-use Rattle.machine.specs.declared.action.Action.TheVariants.{Planned}
-use Rattle.machine.specs.Actions.{answer_of, tables_after, memory_after}
-use Rattle.machine.specs.Decide.{by_step, decided}
-use Rattle.machine.specs.Step.{Stepped, is_accepted, one_more, counted, after, taken, step}
+use Rattle.machine.specs.Actions.{tables_after, memory_after}
+use Rattle.machine.specs.Decide.{by_processor, by_plan, by_step, decided}
+use Rattle.machine.specs.Step.{Stepped, one_more, counted, after, taken, step}
 use Rattle.machine.proofs.Keeping.{counted_keeps, counted_only}
-use Rattle.machine.proofs.Taking.{by_test, by_refused}
+use Rattle.machine.proofs.Taking.{by_test}
+use Rattle.machine.proofs.Levels.{answered}
 use Rattle.machine.proofs.Fitting.{quarters}
 
 -- a step of kind 0 to 4 of core k, or words that are no step
-pub data Plain (k : ℕ) : Step → Type 0 where
-  runs : (v w : Walk) → Plain k (kind.Core k v w)
-  create : (va : ℕ) → va < 2 ^ 20 → Plain k (kind.TlbCreate k va)
-  extend : (w : Walk) → Plain k (kind.TlbExtend k w)
-  accessed : (w : Walk) → Plain k (kind.TlbAccessed k w)
-  drain : Plain k (kind.StoreBuffer k)
-  none : Plain k kind.NotAStep
+pub data Plain (k : ℕ) : Option Step → Type 0 where
+  runs : (v w : Walk) → Plain k (Some (ByProcessor k (Core v w)))
+  create : (va : ℕ) → va < 2 ^ 20 → Plain k (Some (ByProcessor k (TlbCreate va)))
+  extend : (w : Walk) → Plain k (Some (ByProcessor k (TlbExtend w)))
+  accessed : (w : Walk) → Plain k (Some (ByProcessor k (TlbAccessed w)))
+  drain : Plain k (Some (ByProcessor k StoreBuffer))
+  none : Plain k None
 
 -- its plan on the block b, beside the I/O APIC's port words and the memory m
-abbrev pub plan_of : {k : ℕ} {x : Step} → Plain k x → List ℕ → IoPorts → List ℕ → Plan
+abbrev pub plan_of : {k : ℕ} {x : Option Step} → Plain k x → List ℕ → IoPorts → List ℕ → Result Plan Refusal
 plan_of (runs v w) b io m = core.core_plan (core.view_of b) io m v w
 plan_of (create va h) b io m = planned (walks b) (core.is_free b) (create_on b va)
 plan_of (extend w) b io m = planned (walks b) (core.is_free b) (extend_on b m w)
 plan_of (accessed w) b io m = planned (walks b) (core.is_free b) (accessed_on b m w)
 plan_of drain b io m = buffer_step (stores b) (length m)
-plan_of none b io m = refused 5
+plan_of none b io m = Err NotAStep
 
 -- ---- the form of a step, which the number of cores does not change where the core is there
 
-abbrev pub form_of : List ℕ → Step
+abbrev pub form_of : List ℕ → Option Step
 form_of s = step_of (suc (word s 1)) s
 
 pub form_same : (n : ℕ) (s : List ℕ) → word s 1 < n → step_of n s ≡ form_of s
 unfolding step_of
 form_same n s h =
     ap (λ (t : Bool). if eqb (length s) 6 then
-    (if ltb (word s 0) 9 then or_not t (step_of_core (word s 0) (word s 1) s)
-    else if ltb (word s 0) 12 then or_not (ltb (word s 1) line_count) (step_of_line (word s 0) (word s 1) s)
-    else kind.NotAStep)
-    else kind.NotAStep) (lt-ltb (word s 1) n h ∙ sym (lt-ltb (word s 1) (suc (word s 1)) (omega arith)))
+    (if ltb (word s 0) 9 then (if t then step_of_core (word s 0) (word s 1) s else None)
+    else if ltb (word s 0) 12 then (if ltb (word s 1) line_count then step_of_line (word s 0) (word s 1) s else None)
+    else None)
+    else None) (lt-ltb (word s 1) n h ∙ sym (lt-ltb (word s 1) (suc (word s 1)) (omega arith)))
 
-or_not_lem : (k : ℕ) (t : Bool) (x : Step) → (t ≡ true → Plain k x) → Plain k (or_not t x)
-or_not_lem k t x f = by_test (Plain k) t x kind.NotAStep f (λ _. none)
+if_step : (k : ℕ) (t : Bool) (x : Step) → (t ≡ true → Plain k (Some x)) → Plain k (then_some t x)
+if_step k true x f = f refl
+if_step k false x f = none
 
 core_form : (c k : ℕ) (s : List ℕ) → c ≤ 4 → Plain k (step_of_core c k s)
 core_form c k s h =
     by_test (Plain k) (eqb c 0) _ _ (λ _. runs _ _)
     (λ e₀. by_test (Plain k) (eqb c 1) _ _
-    (λ _. or_not_lem k (ltb (word s 2) (2 ^ 20) && zero3 s) (kind.TlbCreate k (word s 2)) (λ f. create (word s 2) (ltb-true (word s 2) (2 ^ 20) (and_left (ltb (word s 2) (2 ^ 20)) (zero3 s) f))))
-    (λ e₁. by_test (Plain k) (eqb c 2) _ _ (λ _. or_not_lem k (ltb (word s 4) (2 ^ 3) && zero5 s) _ (λ _. extend _))
-    (λ e₂. by_test (Plain k) (eqb c 3) _ _ (λ _. or_not_lem k (zero4 s) _ (λ _. accessed _))
-    (λ e₃. by_test (Plain k) (eqb c 4) _ _ (λ _. or_not_lem k (zero2 s) _ (λ _. drain))
+    (λ _. if_step k (ltb (word s 2) (2 ^ 20) && zero_from 3 s) (ByProcessor k (TlbCreate (word s 2))) (λ f. create (word s 2) (ltb-true (word s 2) (2 ^ 20) (and_left (ltb (word s 2) (2 ^ 20)) (zero_from 3 s) f))))
+    (λ e₁. by_test (Plain k) (eqb c 2) _ _ (λ _. if_step k (ltb (word s 4) (2 ^ 3) && zero_from 5 s) _ (λ _. extend _))
+    (λ e₂. by_test (Plain k) (eqb c 3) _ _ (λ _. if_step k (zero_from 4 s) _ (λ _. accessed _))
+    (λ e₃. by_test (Plain k) (eqb c 4) _ _ (λ _. if_step k (zero_from 2 s) _ (λ _. drain))
     (λ e₄. absurd (omega (arith, eqb-false c 0 e₀, eqb-false c 1 e₁, eqb-false c 2 e₂, eqb-false c 3 e₃, eqb-false c 4 e₄)))))))
 
 pub plain_form : (s : List ℕ) → leb (word s 0) 4 ≡ true → Plain (word s 1) (form_of s)
 unfolding step_of
 plain_form s h =
     let c : word s 0 ≤ 4 = leb-true (word s 0) 4 h in
-    by_test (Plain (word s 1)) (eqb (length s) 6) _ kind.NotAStep
-    (λ _. by_test (Plain (word s 1)) (ltb (word s 0) 9) (or_not (ltb (word s 1) (suc (word s 1))) (step_of_core (word s 0) (word s 1) s)) _
-    (λ _. or_not_lem (word s 1) (ltb (word s 1) (suc (word s 1))) (step_of_core (word s 0) (word s 1) s) (λ _. core_form (word s 0) (word s 1) s c))
+    by_test (Plain (word s 1)) (eqb (length s) 6) _ None
+    (λ _. by_test (Plain (word s 1)) (ltb (word s 0) 9) _ _
+    (λ _. by_test (Plain (word s 1)) (ltb (word s 1) (suc (word s 1))) (step_of_core (word s 0) (word s 1) s) None (λ _. core_form (word s 0) (word s 1) s c) (λ _. none))
     (λ e. absurd (true_false (sym (lt-ltb (word s 0) 9 (omega arith)) ∙ e))))
     (λ _. none)
 
@@ -109,20 +111,26 @@ plain_form s h =
 
 -- a core's block after its step: as the plan says, and where it is refused with one refusal more, if the words name
 -- the core
-abbrev pub own_after : Bool → Plan → Answer → List ℕ → List ℕ
-own_after c p r b = if is_accepted r then commit.block_after p b else if c then one_more at.core_refusals b else b
+abbrev pub own_after : Bool → Result Plan Refusal → List ℕ → List ℕ
+own_after c (Ok p) b = commit.block_after p b
+own_after c (Err r) b = if c then one_more at.core_refusals b else b
+
+-- memory after it
+abbrev pub bytes_after : Result Plan Refusal → List ℕ → List ℕ
+bytes_after (Ok p) m = commit.memory_by_plan p m
+bytes_after (Err r) m = m
 
 -- whether they do, which the number of cores does not change where the core is there
 abbrev pub is_counted : List ℕ → Bool
 is_counted s = names_core (suc (word s 1)) s
 
 -- what the plan p of core k makes of t and m is r, where c says whether a refusal is the core's
-pub record Law (t m : List ℕ) (k : ℕ) (c : Bool) (p : Plan) (r : Stepped) : Type 0 where
-  pub answers : r.answer ≡ p.answer
-  pub own : block r.tables k ≡ own_after c p p.answer (block t k)
+pub record Law (t m : List ℕ) (k : ℕ) (c : Bool) (p : Result Plan Refusal) (r : Stepped) : Type 0 where
+  pub answers : r.answer ≡ answered p
+  pub own : block r.tables k ≡ own_after c p (block t k)
   pub others : (j : ℕ) → j ≢ k → j < cores_of t → block r.tables j ≡ block t j
   pub words : (i : ℕ) → i ≢ at.refusals → (i < at.ioregsel) ⊎ (29 < i) → (i < 32 + 256 * k) ⊎ (32 + 256 * k + 256 ≤ i) → get_or r.tables i 0 ≡ get_or t i 0
-  pub bytes : r.memory ≡ commit.memory_by_plan p m
+  pub bytes : r.memory ≡ bytes_after p m
   pub run : (r.memory ≡ m) ⊎ Run m r.memory
   pub cores : cores_of r.tables ≡ cores_of t
   pub is_sound : sound r.tables (length r.memory) ≡ true
@@ -185,9 +193,8 @@ module _ (t m : List ℕ) (e : sound t (length m) ≡ true) (s : List ℕ) (h : 
   abbrev c : Bool
   c = is_counted s
 
-  refused_law : (n : ℕ) → Law t m k c (refused n) (record { answer = answer.Refused n; tables = counted s t; memory = m })
-  unfolding commit.written_to
-  refused_law n =
+  refused_law : (r : Refusal) → Law t m k c (Err r) (record { answer = Err r; tables = counted s t; memory = m })
+  refused_law r =
       record {
         answers = refl;
         own = counted_own t m e s h;
@@ -199,54 +206,41 @@ module _ (t m : List ℕ) (e : sound t (length m) ≡ true) (s : List ℕ) (h : 
         is_sound = (counted_keeps t (length m) e s).is_sound;
       }
 
-  plan_law : (p : Plan) → MayBeDone (length m) (block t k) p → Law t m k c p (after s p.answer (Planned k p) t m)
+  plan_law : (p : Result Plan Refusal) → MayBeDone (length m) (block t k) p → Law t m k c p (after s (by_plan k p) t m)
   unfolding after tables_after memory_after
-  plan_law p D = go (is_accepted p.answer) refl
-    where
-      done : block (commit.tables_by_plan k p t) k ≡ own_after c p p.answer (block t k) → Law t m k c p (record { answer = p.answer; tables = commit.tables_by_plan k p t; memory = commit.memory_by_plan p m })
-      done q =
-          let fits = core_fits t (length m) e k h in
-          let long = plan_long t m k p e h D in
-          record {
-            answers = refl;
-            own = q;
-            others = λ j d q. tables_other k p t fits long j d (core_fits t (length m) e j q);
-            words = λ i d. tables_local k p t fits long i;
-            bytes = refl;
-            run = plan_memory t m k p e h D;
-            cores = tables_local k p t fits long at.cores (inl (omega arith)) (inl (omega arith));
-            is_sound = plan_sound t m k p e h D;
-          }
-
-      own : block (commit.tables_by_plan k p t) k ≡ commit.block_after p (block t k)
-      own = tables_own k p t (core_fits t (length m) e k h) (plan_long t m k p e h D)
-
-      go : (b : Bool) → is_accepted p.answer ≡ b
-          → Law t m k c p (record { answer = p.answer; tables = if b then commit.tables_by_plan k p t else counted s t; memory = if b then commit.memory_by_plan p m else m })
-      go true q = done (own ∙ ap (λ (b : Bool). if b then commit.block_after p (block t k) else if c then one_more at.core_refusals (block t k) else block t k) (sym q))
-      go false q =
-          by_refused (λ (a : Answer). p.answer ≡ a → Law t m k c p (record { answer = a; tables = counted s t; memory = m }))
-          (λ n e. subst (λ (x : Plan). Law t m k c x (record { answer = answer.Refused n; tables = counted s t; memory = m })) (sym (D.is_still n e)) (refused_law n))
-          p.answer q refl
+  plan_law (Err r) D = refused_law r
+  plan_law (Ok p) D =
+      let fits = core_fits t (length m) e k h in
+      let long = plan_long t m k p e h D in
+      record {
+        answers = refl;
+        own = tables_own k p t fits long;
+        others = λ j d q. tables_other k p t fits long j d (core_fits t (length m) e j q);
+        words = λ i d. tables_local k p t fits long i;
+        bytes = refl;
+        run = plan_memory t m k p e h D;
+        cores = tables_local k p t fits long at.cores (inl (omega arith)) (inl (omega arith));
+        is_sound = plan_sound t m k p e h D;
+      }
 
   -- the plan may be done: of the core's block it asks one word, of memory its bytes
-  pub plan_done : {x : Step} (o : Plain k x) → Bytes m → get_or (block t k) (at.spr + at.pto) 0 < 2 ^ 32 → MayBeDone (length m) (block t k) (plan_of o (block t k) (core.io_ports_of t) m)
+  pub plan_done : {x : Option Step} (o : Plain k x) → Bytes m → get_or (block t k) (at.spr + at.pto) 0 < 2 ^ 32 → MayBeDone (length m) (block t k) (plan_of o (block t k) (core.io_ports_of t) m)
   plan_done (runs v w) b q = core_plan_lem (block t k) (core.io_ports_of t) m v w (quarters t (length m) e)
   plan_done (create va l) b q = create_plan (block t k) m va l q
   plan_done (extend w) b q = extend_plan (block t k) m w (core_sound t (length m) e k h) b
   plan_done (accessed w) b q = accessed_plan (block t k) m w
   plan_done drain b q = drain_plan (length m) (block t k) (core_sound t (length m) e k h)
-  plan_done none b q = may_be_done (refused_doable (length m) (block t k) 5)
+  plan_done none b q = tt
 
-  taken_law : {x : Step} (o : Plain k x) → Bytes m → get_or (block t k) (at.spr + at.pto) 0 < 2 ^ 32
-      → Law t m k c (plan_of o (block t k) (core.io_ports_of t) m) (after s (answer_of (by_step t m x)) (by_step t m x) t m)
-  unfolding by_step
+  taken_law : {x : Option Step} (o : Plain k x) → Bytes m → get_or (block t k) (at.spr + at.pto) 0 < 2 ^ 32
+      → Law t m k c (plan_of o (block t k) (core.io_ports_of t) m) (after s (by_step t m x) t m)
+  unfolding by_step by_processor
   taken_law (runs v w) b q = plan_law _ (plan_done (runs v w) b q)
   taken_law (create va l) b q = plan_law _ (plan_done (create va l) b q)
   taken_law (extend w) b q = plan_law _ (plan_done (extend w) b q)
   taken_law (accessed w) b q = plan_law _ (plan_done (accessed w) b q)
   taken_law drain b q = plan_law _ (plan_done drain b q)
-  taken_law none b q = unfold after in refused_law 5
+  taken_law none b q = unfold after in refused_law NotAStep
 
 pub step_law : (t m s : List ℕ) → sound t (length m) ≡ true → Bytes m → word s 1 < cores_of t → get_or (block t (word s 1)) (at.spr + at.pto) 0 < 2 ^ 32
     → (o : Plain (word s 1) (form_of s)) → Law t m (word s 1) (is_counted s) (plan_of o (block t (word s 1)) (core.io_ports_of t) m) (step t m s)

@@ -1,47 +1,24 @@
-// What a step is to do to the tables and to memory.
-ghost use Rattle.std.specs.Prelude.{◌≡◌, true, false, ◌<◌, ◌≤◌, length};
-ghost use Rattle.tables.specs.Sound.{sound};
+// What a step of an APIC, or on a line, is to do to the tables.
+ghost use Rattle.std.specs.Prelude.{◌≡◌, true, ◌<◌, ◌≤◌, ◌+◌, ◌*◌, length};
 ghost use Rattle.tables.specs.Views.{cores_of};
 ghost use Rattle.machine.specs.Actions as x;
 ghost use Rattle.machine.specs.inner.Doable.{doable};
-ghost use Rattle.machine.specs.inner.Split.{is_plan};
 
 use apic::active;
 use apic::active::Ipi;
-use cores::Plan;
 use ioapic::{bus, ports};
-use steps::Answer;
 
 #[derive(Clone, Copy)]
 pub enum Action {
-    Refused(u32),
-    // A plan of a core.
-    Planned(u32, Plan),
     SendIpi(u32, Ipi),
     // The core and the vector.
-    SendEoi(u32, u32),
+    SendEoi(u32, u8),
     InitCore(u32),
     StartCore(u32),
     Sample(u32),
     Deliver(u32),
     // The line and its level.
     SetLine(u32, u32),
-}
-
-pub fn answer(a: Action) -> Answer
-    ensures { result ≡ x.answer_of a }
-{
-    match a {
-        Action::Refused(n) => Answer::Refused(n),
-        Action::Planned(_, p) => p.answer,
-        Action::SendIpi(_, _) => Answer::Done,
-        Action::SendEoi(_, _) => Answer::Done,
-        Action::InitCore(_) => Answer::Done,
-        Action::StartCore(_) => Answer::Done,
-        Action::Sample(_) => Answer::Done,
-        Action::Deliver(_) => Answer::Done,
-        Action::SetLine(_, _) => Answer::Done,
-    }
 }
 
 fn set_line(t: &mut [u32], l: u32, level: u32)
@@ -51,18 +28,15 @@ fn set_line(t: &mut [u32], l: u32, level: u32)
     t[layout::LINES] = word::put_bit(t[layout::LINES], l, level);
 }
 
-// What was decided by a step that has no plan is done.
-pub fn commit(t: &mut [u32], m: &mut [u8], a: Action)
-    requires m_value { sound t.old (length m.old) ≡ true }
-    requires t_value { doable (cores_of t.old) (length m.old) a t.old ≡ true }
-    requires a_value { is_plan a ≡ false }
-    ensures t_after { t.new ≡ x.tables_after a t.old }
-    ensures m_after { m.new ≡ x.memory_after a m.old }
+// What was decided is done.
+pub fn commit(t: &mut [u32], a: Action)
+    requires t_few { cores_of t.old ≤ 4 }
+    requires t_len { length t.old ≡ 32 + 256 * cores_of t.old }
+    requires a_value { doable (cores_of t.old) a ≡ true }
+    ensures { t.new ≡ x.tables_after (x.Effect.Acts a) t.old }
 {
     let n = t[layout::CORES];
     match a {
-        Action::Refused(_) => {}
-        Action::Planned(_, _) => {}
         Action::SendIpi(k, i) => {
             bus::send_ipi(t, n, k, i);
         }

@@ -11,7 +11,7 @@ ghost use Rattle.machine.specs.Run as many;
 ghost use Rattle.reach.specs.Reach.{reach_on, reached_number, beyond_of};
 ghost use Rattle.separation.specs.Apart.{apart_on, verdict_number};
 ghost use Rattle.separation.specs.Separation.{machine_of, Promised};
-ghost use Rattle.reasons.specs.Why.{told};
+ghost use Rattle.reasons.specs.Why.{told, told_number};
 ghost use Rattle.translate.specs.Translate.{translate_on, translated_number, reads_of};
 ghost use Rattle.disassemble.specs.Disassembly.{disassemble_on, disassembled_number};
 ghost use Rattle.numbers.specs.Numbers.{refusal_or0};
@@ -33,7 +33,8 @@ pub fn mips86_step(tables: &mut [u32], memory: &mut [u8], step: &[u32]) -> u32
     steps::answer_number(machine::step(tables, memory, step))
 }
 
-// A schedule of steps: 0 the end, 1 the limit is spent, 100 and the number of a refusal; and how many steps were accepted.
+// A schedule of steps: 0 the end, 1 the limit is spent, 100 and the number of a refusal; and how many steps were
+// accepted.
 pub fn mips86_run(
     tables: &mut [u32],
     memory: &mut [u8],
@@ -69,7 +70,8 @@ pub fn mips86_reach(
     numbers::reached_number(r)
 }
 
-// Whether a group is apart from the rest: 0 no, 1 yes, 100 and the number of a refusal. A yes makes the promise of separation.
+// Whether a group is apart from the rest: 0 no, 1 yes, 100 and the number of a refusal. A yes makes the promise of
+// separation.
 pub fn mips86_apart(tables: &[u32], memory: &[u8], group: u32) -> u32
     ensures value { result ≡ verdict_number (apart_on group tables.now memory.now) }
     ensures promised { result ≡ 1 → Promised group (machine_of tables.now memory.now) }
@@ -80,13 +82,17 @@ pub fn mips86_apart(tables: &[u32], memory: &[u8], group: u32) -> u32
 // Why a group is not apart: 0 no reason after reason `after`, 1 to 6 the first one, with the rest of it in 18 words,
 // 100 and the number of a refusal.
 pub fn mips86_why(tables: &[u32], memory: &[u8], group: u32, after: u32, words: &mut [u32]) -> u32
-    ensures value { result ≡ (told after group tables.now memory.now words.old).number }
+    ensures value { result ≡ told_number (told after group tables.now memory.now words.old).answer }
     ensures words_after { words.new ≡ (told after group tables.now memory.now words.old).words }
 {
-    reasons::tell(tables, memory, group, after, words)
+    numbers::result_number(
+        reasons::tell(tables, memory, group, after, words),
+        |reason| reason,
+    )
 }
 
-// Where up to 64 virtual addresses of a core lead, three words each: 0, or 100 and the number of a refusal; and how many table entries were read.
+// Where up to 64 virtual addresses of a core lead, three words each: 0, or 100 and the number of a refusal; and how
+// many table entries were read.
 pub fn mips86_translate(
     tables: &[u32],
     memory: &[u8],

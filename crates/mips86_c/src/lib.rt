@@ -9,7 +9,7 @@ ghost use Rattle.machine.specs.Run as many;
 ghost use Rattle.reach.specs.Reach.{reach_on, reached_number, beyond_of};
 ghost use Rattle.separation.specs.Apart.{apart_on, verdict_number};
 ghost use Rattle.separation.specs.Separation.{machine_of, Promised};
-ghost use Rattle.reasons.specs.Why.{told};
+ghost use Rattle.reasons.specs.Why.{told, told_number};
 ghost use Rattle.translate.specs.Translate.{translate_on, translated_number, reads_of};
 ghost use Rattle.disassemble.specs.Disassembly.{disassemble_on, disassembled_number};
 ghost use Rattle.numbers.specs.Numbers.{refusal_or0};
@@ -33,7 +33,8 @@ pub extern "C" fn mips86_step(tables: &mut [u32], memory: &mut [u8], step: &[u32
     mips86::mips86_step(tables, memory, step)
 }
 
-// A schedule of steps: 0 the end, 1 the limit is spent, 100 and the number of a refusal; and how many steps were accepted.
+// A schedule of steps: 0 the end, 1 the limit is spent, 100 and the number of a refusal; and how many steps were
+// accepted.
 #[unsafe(no_mangle)]
 pub extern "C" fn mips86_run(
     tables: &mut [u32],
@@ -66,7 +67,8 @@ pub extern "C" fn mips86_reach(
     mips86::mips86_reach(tables, memory, group, map, beyond)
 }
 
-// Whether a group is apart from the rest: 0 no, 1 yes, 100 and the number of a refusal. A yes makes the promise of separation.
+// Whether a group is apart from the rest: 0 no, 1 yes, 100 and the number of a refusal. A yes makes the promise of
+// separation.
 #[unsafe(no_mangle)]
 pub extern "C" fn mips86_apart(tables: &[u32], memory: &[u8], group: u32) -> u32
     ensures value { result ≡ verdict_number (apart_on group tables.now memory.now) }
@@ -85,13 +87,14 @@ pub extern "C" fn mips86_why(
     after: u32,
     words: &mut [u32],
 ) -> u32
-    ensures value { result ≡ (told after group tables.now memory.now words.old).number }
+    ensures value { result ≡ told_number (told after group tables.now memory.now words.old).answer }
     ensures words_after { words.new ≡ (told after group tables.now memory.now words.old).words }
 {
     mips86::mips86_why(tables, memory, group, after, words)
 }
 
-// Where up to 64 virtual addresses of a core lead, three words each: 0, or 100 and the number of a refusal; and how many table entries were read.
+// Where up to 64 virtual addresses of a core lead, three words each: 0, or 100 and the number of a refusal; and how
+// many table entries were read.
 #[unsafe(no_mangle)]
 pub extern "C" fn mips86_translate(
     tables: &[u32],

@@ -8,102 +8,79 @@ ghost use Rattle.reach.specs.Reach.{reached_number, beyond_of};
 ghost use Rattle.separation.specs.Apart.{verdict_number};
 ghost use Rattle.translate.specs.Translate.{translated_number, reads_of};
 ghost use Rattle.disassemble.specs.Disassembly.{disassembled_number};
-ghost use Rattle.numbers.specs.Numbers.{made_number};
+ghost use Rattle.numbers.specs.Numbers.{made_number, IsResultNumber};
 
-use disassemble::Disassembled;
 use machine::run::Stop;
-use reach::Reached;
-use separation::Verdict;
-use tables::make::Made;
-use translate::Translated;
+use reach::Extent;
+use refusals::Refusal;
 
-// make
-pub fn made_number(a: Made) -> u32
-    ensures { result ≡ made_number a }
+// The number of an answer: what `told` gives of a success, and 100 and the number of a refusal.
+pub fn result_number<T, F: FnOnce(T) -> u32>(answer: Result<T, Refusal>, told: F) -> u32
+    requires { F.IsAlwaysCallable told }
+    ensures { IsResultNumber (F.post told) answer result }
 {
-    match a {
-        Made::Done => 0,
-        Made::Cores => 101,
-        Made::Memory => 102,
-        Made::Length => 103,
+    match answer {
+        Ok(value) => told(value),
+        Err(refusal) => 100 + u32::from(refusal),
     }
 }
 
-// run: why it stopped
-pub fn stop_number(s: Stop) -> u32
-    requires { stop_number s < 2 ^ 32 }
-    ensures { result ≡ stop_number s }
+// make
+pub fn made_number(a: Result<(), Refusal>) -> u32
+    ensures { result ≡ made_number a }
 {
-    match s {
+    result_number(a, |_made| 0)
+}
+
+// run: why it stopped
+pub fn stop_number(stop: Stop) -> u32
+    ensures { result ≡ stop_number stop }
+{
+    match stop {
         Stop::End => 0,
         Stop::Limit => 1,
-        Stop::Refused(n) => 100 + n,
+        Stop::Refused(refusal) => 100 + u32::from(refusal),
     }
 }
 
 // reach
-pub fn reached_number(a: Reached) -> u32
-    requires { reached_number a < 2 ^ 32 }
+pub fn reached_number(a: Result<Extent, Refusal>) -> u32
     ensures { result ≡ reached_number a }
 {
-    match a {
-        Reached::Inside => 0,
-        Reached::Beyond => 0,
-        Reached::Refused(n) => 100 + n,
-    }
+    result_number(a, |_extent| 0)
 }
 
 // reach: whether a page beyond memory is reached, the word beside it
-pub fn beyond_number(a: Reached) -> u32
+pub fn beyond_number(a: Result<Extent, Refusal>) -> u32
     ensures { result ≡ beyond_of a }
 {
-    match a {
-        Reached::Inside => 0,
-        Reached::Beyond => 1,
-        Reached::Refused(_) => 0,
-    }
+    u32::from(a == Ok(Extent::Beyond))
 }
 
 // apart
-pub fn verdict_number(a: Verdict) -> u32
-    requires { verdict_number a < 2 ^ 32 }
+pub fn verdict_number(a: Result<bool, Refusal>) -> u32
     ensures { result ≡ verdict_number a }
 {
-    match a {
-        Verdict::No => 0,
-        Verdict::Yes => 1,
-        Verdict::Refused(n) => 100 + n,
-    }
+    result_number(a, u32::from)
 }
 
 // translate
-pub fn translated_number(a: Translated) -> u32
-    requires { translated_number a < 2 ^ 32 }
+pub fn translated_number(a: Result<u32, Refusal>) -> u32
     ensures { result ≡ translated_number a }
 {
-    match a {
-        Translated::Done(_) => 0,
-        Translated::Refused(n) => 100 + n,
-    }
+    result_number(a, |_reads| 0)
 }
 
 // translate: how many table entries were read, the word beside it
-pub fn reads_number(a: Translated) -> u32
+pub fn reads_number(a: Result<u32, Refusal>) -> u32
     ensures { result ≡ reads_of a }
 {
-    match a {
-        Translated::Done(n) => n,
-        Translated::Refused(_) => 0,
-    }
+    a.unwrap_or(0)
 }
 
 // disassemble: the length of the text, or a refusal
-pub fn disassembled_number(a: Disassembled) -> u32
-    requires { disassembled_number a < 2 ^ 32 }
+pub fn disassembled_number(a: Result<u32, Refusal>) -> u32
     ensures { result ≡ disassembled_number a }
 {
-    match a {
-        Disassembled::Length(n) => n,
-        Disassembled::Refused(n) => 100 + n,
-    }
+    result_number(a, |length| length)
 }

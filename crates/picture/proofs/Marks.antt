@@ -1,16 +1,14 @@
 -- Laws of counts, marks and rows.
 -- Assumes nothing.
-use mathlib.Core.Path.{◌≡◌, refl, sym, ap, ◌∙◌, subst}
+use mathlib.Core.Path.{◌≡◌, refl, sym, ap, ◌∙◌}
 use mathlib.Core.Bool.{Bool, true, false, ◌&&◌, ◌||◌}
 use mathlib.Core.List.{List, [], ◌∷◌, ◌++◌}
 use Prim.Native.Nat.{ℕ, ◌+◌, ◌≤◌, ◌<◌}
 use native.Mathlib.Numerals.{add-one}
 use native.Mathlib.Omega.{arith}
-use lib.ListN.{length, drop, get_or, set, drop_of_length-le}
+use lib.ListN.{length, drop, get_or, drop_of_length-le}
 use lib.Seq.{drop-cons}
 use Rattle.word.specs.Word.{flag}
-use Rattle.text.specs.Text.{Put}
-use Rattle.text.proofs.Texts.{then_byte, reworded}
 use Rattle.picture.specs.Pages.{count_of, is_reached, can_write, is_table, page_spoils, mark_of, mark_row, row, rows}
 
 -- ---- counts: so many of the pages passed, and those of the pages left
@@ -19,13 +17,17 @@ pub count_begins : (p : ℕ → Bool) (l : List ℕ) → 0 + count_of p (drop 0 
 count_begins p l = omega arith
 
 pub count_more :
-    (p : ℕ → Bool) (l : List ℕ) (i n f : ℕ) → i < length l → f ≡ flag (p (get_or l i 0)) → n + count_of p (drop i l) ≡ count_of p l
-    → n + f + count_of p (drop (i + 1) l) ≡ count_of p l
+    (p : ℕ → Bool) (l : List ℕ) (i n : ℕ) {k : ℕ} → i < length l → k ≡ n + flag (p (get_or l i 0)) → n + count_of p (drop i l) ≡ count_of p l
+    → k + count_of p (drop (i + 1) l) ≡ count_of p l
 unfolding count_of
-count_more p l i n f h e q =
+count_more p l i n h e q =
     let s : drop i l ≡ get_or l i 0 ∷ drop (i + 1) l = drop-cons l i 0 h ∙ ap (λ (j : ℕ). get_or l i 0 ∷ drop j l) (sym (add-one i)) in
     let c : count_of p (drop i l) ≡ flag (p (get_or l i 0)) + count_of p (drop (i + 1) l) = ap (count_of p) s in
     omega arith
+
+pub flag_small : (b : Bool) → flag b ≤ 1
+flag_small true = omega arith
+flag_small false = omega arith
 
 pub count_ends : (p : ℕ → Bool) (l : List ℕ) (i n : ℕ) → length l ≤ i → n + count_of p (drop i l) ≡ count_of p l → n ≡ count_of p l
 unfolding count_of
@@ -47,14 +49,10 @@ spoiled x y {a} {b} {c} {d} {e} {f} {g} p q r s t u v = rw (p, q, r, s, t, u, v)
     grouped false b c = refl
 
 pub marks_more :
-    (b : List ℕ) (at : ℕ) (own other : List ℕ) (a i : ℕ) (c : List ℕ) (v : ℕ) → Put b at (mark_row own other a i) (at + i) c → at + i < length c
-    → v ≡ mark_of (get_or own (a + i) 0) (get_or other (a + i) 0) → Put b at (mark_row own other a (i + 1)) (at + (i + 1)) (set c (at + i) v)
+    (own other : List ℕ) (a i : ℕ) {v : ℕ} → v ≡ mark_of (get_or own (a + i) 0) (get_or other (a + i) 0)
+    → mark_row own other a i ++ (v ∷ []) ≡ mark_row own other a (i + 1)
 unfolding mark_row
-marks_more b at own other a i c v p h e =
-    let k : at + i + 1 ≡ at + (i + 1) = omega arith in
-    let m : mark_row own other a i ++ (v ∷ []) ≡ mark_row own other a (i + 1)
-    = ap (λ (w : ℕ). mark_row own other a i ++ (w ∷ [])) e ∙ ap (mark_row own other a) (sym (add-one i)) in
-    reworded m (subst (λ (r : ℕ). Put b at (mark_row own other a i ++ (v ∷ [])) r (set c (at + i) v)) k (then_byte b at (mark_row own other a i) (at + i) c v p h))
+marks_more own other a i e = ap (λ (w : ℕ). mark_row own other a i ++ (w ∷ [])) e ∙ ap (mark_row own other a) (sym (add-one i))
 
 pub rows_more : (own other : List ℕ) (n : ℕ) → rows own other n ++ row own other n ≡ rows own other (n + 1)
 unfolding rows

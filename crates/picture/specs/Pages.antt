@@ -20,8 +20,8 @@ unfoldable pub count_of : (ℕ → Bool) → List ℕ → ℕ
 count_of p [] = 0
 count_of p (x ∷ l) = flag (p x) + count_of p l
 
--- a page whose byte is x for the group and y for the rest spoils the verdict: one side both writes it and uses it as a table, or the group
--- reaches it and the rest writes it or uses it as a table
+-- a page whose byte is x for the group and y for the rest spoils the verdict: one side both writes it and uses it as a
+-- table, or the group reaches it and the rest writes it or uses it as a table
 unfoldable pub page_spoils : ℕ → ℕ → Bool
 page_spoils x y = (can_write x && is_table x) || ((can_write y && is_table y) || (is_reached x && (can_write y || is_table y)))
 

@@ -1,11 +1,13 @@
 // What the two sides do with each page (specs/Pages.antt): how many pages, and the picture.
-ghost use Rattle.std.specs.Prelude.{◌≡◌, ◌+◌, ◌*◌, ◌≤◌, ◌<◌, min, length};
-ghost use Rattle.text.specs.Text.{Put};
+ghost use Rattle.std.specs.Prelude.{◌≡◌, ◌++◌, ◌+◌, ◌*◌, ◌≤◌, ◌<◌, length};
+ghost use Rattle.word.specs.Word.{flag};
 ghost use Rattle.picture.specs.Pages as pages;
 
-use text::{put, put_padded};
+use std::cmp::min;
+use text::Text;
 
-#[derive(Clone, Copy)]
+// How many pages of a map are reached, written and used as tables.
+#[derive(Clone, Copy, Debug, PartialEq, Eq)]
 pub struct Tally {
     pub reached: u32,
     pub written: u32,
@@ -30,26 +32,30 @@ fn is_table(byte: u8) -> bool
     byte / 2 % 2 == 1
 }
 
-// How many pages of a map are reached, written and used as tables.
-pub fn tally_of(map: &[u8]) -> Tally
-    requires { length map.now ≤ 4096 }
-    ensures { (result.reached ≡ pages.count_of pages.is_reached map.now) × (result.written ≡ pages.count_of pages.can_write map.now) × (result.tables ≡ pages.count_of pages.is_table map.now) }
-{
-    let mut reached: u32 = 0;
-    let mut written: u32 = 0;
-    let mut tables: u32 = 0;
-    let mut i: usize = 0;
-    while i < map.len() {
-        let byte = map[i];
-        reached += word::flag(is_reached(byte));
-        written += word::flag(is_written(byte));
-        tables += word::flag(is_table(byte));
-        i += 1;
+impl Tally {
+    // Counts one page more.
+    fn count(&mut self, byte: u8)
+        requires { (self.old.reached < 4096) × (self.old.written < 4096) × (self.old.tables < 4096) }
+        ensures { (self.new.reached ≡ self.old.reached + flag (pages.is_reached byte)) × (self.new.written ≡ self.old.written + flag (pages.can_write byte)) × (self.new.tables ≡ self.old.tables + flag (pages.is_table byte)) }
+    {
+        self.reached += word::flag(is_reached(byte));
+        self.written += word::flag(is_written(byte));
+        self.tables += word::flag(is_table(byte));
     }
-    Tally {
-        reached,
-        written,
-        tables,
+
+    pub fn of(map: &[u8]) -> Tally
+        requires { length map.now ≤ 4096 }
+        ensures { (result.reached ≡ pages.count_of pages.is_reached map.now) × (result.written ≡ pages.count_of pages.can_write map.now) × (result.tables ≡ pages.count_of pages.is_table map.now) }
+    {
+        let mut tally = Tally {
+            reached: 0,
+            written: 0,
+            tables: 0,
+        };
+        for byte in map {
+            tally.count(*byte);
+        }
+        tally
     }
 }
 
@@ -96,48 +102,40 @@ fn mark(own: u8, other: u8) -> u8
 }
 
 // The marks of n pages from page a on.
-fn put_marks(out: &mut [u8], at: usize, own: &[u8], other: &[u8], a: usize, n: usize) -> usize
-    requires { (at + n ≤ length out.old) × (a + n ≤ length own.now) × (a + n ≤ length other.now) }
-    ensures { Put out.old at (pages.mark_row own.now other.now a n) result out.new × (result ≡ at + n) }
+fn put_marks<const N: usize>(text: &mut Text<N>, own: &[u8], other: &[u8], a: usize, n: usize)
+    requires room { length text.old + n ≤ N }
+    requires maps { (a + n ≤ length own.now) × (a + n ≤ length other.now) }
+    ensures text { text.new ≡ text.old ++ pages.mark_row own.now other.now a n }
+    ensures bound { length text.new ≤ length text.old + n }
 {
-    let mut i: usize = 0;
-    while i < n {
-        out[at + i] = mark(own[a + i], other[a + i]);
-        i += 1;
+    for i in 0..n {
+        text.put_byte(mark(own[a + i], other[a + i]));
     }
-    at + i
-}
-
-fn up_to_64(n: usize) -> usize
-    ensures { result ≡ min 64 n }
-{
-    if n < 64 { n } else { 64 }
 }
 
 // Row n: at most 86 bytes.
-fn put_row(out: &mut [u8], at: usize, own: &[u8], other: &[u8], n: usize) -> usize
-    requires { (at + 86 ≤ length out.old) × (64 * n < length own.now) × (length other.now ≡ length own.now) × (n < 64) }
-    ensures { Put out.old at (pages.row own.now other.now n) result out.new × (result ≤ at + 86) }
+#[tactic(auto, unfolding(crate::specs::Pages::row))]
+fn put_row<const N: usize>(text: &mut Text<N>, own: &[u8], other: &[u8], n: usize)
+    requires room { length text.old + 86 ≤ N }
+    requires maps { (64 * n < length own.now) × (length other.now ≡ length own.now) × (n < 64) }
+    ensures text { text.new ≡ text.old ++ pages.row own.now other.now n }
+    ensures bound { length text.new ≤ length text.old + 86 }
 {
     let first = 64 * n;
-    let p = put_padded(out, at, first as u64, 4);
-    let q = put(out, p, b" ");
-    let k = up_to_64(own.len() - first);
-    let s = put_marks(out, q, own, other, first, k);
-    put(out, s, b"\n")
+    text.put_padded(first as u64, 4);
+    text.put(b" ");
+    put_marks(text, own, other, first, min(64, own.len() - first));
+    text.put(b"\n");
 }
 
 // All rows: at most 64 of them.
-pub fn put_picture(out: &mut [u8], at: usize, own: &[u8], other: &[u8]) -> usize
-    requires { (at + 5504 ≤ length out.old) × (length own.now ≤ 4096) × (length other.now ≡ length own.now) }
-    ensures { Put out.old at (pages.picture own.now other.now) result out.new × (result ≤ at + 5504) }
+pub fn put_picture<const N: usize>(text: &mut Text<N>, own: &[u8], other: &[u8])
+    requires room { length text.old + 5504 ≤ N }
+    requires maps { (length own.now ≤ 4096) × (length other.now ≡ length own.now) }
+    ensures text { text.new ≡ text.old ++ pages.picture own.now other.now }
+    ensures bound { length text.new ≤ length text.old + 5504 }
 {
-    let rows = (own.len() + 63) / 64;
-    let mut n: usize = 0;
-    let mut p = at;
-    while n < rows {
-        p = put_row(out, p, own, other, n);
-        n += 1;
+    for n in 0..own.len().div_ceil(64) {
+        put_row(text, own, other, n);
     }
-    p
 }

@@ -1,15 +1,15 @@
-// Three sets of pages as marks in one array of bytes, 8,192 a set: first-level tables, second-level tables, data (specs/inner/Marks.antt).
-// A mark is a plain store of 1, so that a table page is gone through once, entry by entry.
-ghost use Rattle.std.specs.Prelude.{◌≡◌, [], ◌∷◌, ◌+◌, ◌*◌, ◌<◌, ◌≤◌, length};
+// Three sets of pages as marks in one array of bytes, 8,192 a set: first-level tables, second-level tables, data
+// (specs/inner/Marks.antt). A mark is a plain store of 1, so that a table page is gone through once, entry by entry.
+ghost use Rattle.std.specs.Prelude.{◌≡◌, [], ◌∷◌, ◌+◌, ◌*◌, ◌<◌, ◌≤◌, length, Some};
 ghost use mathlib.Core.List as lists;
 ghost use Rattle.word.specs.Word.{flag};
 ghost use Rattle.word.specs.Bytes.{bytes_at};
-ghost use Rattle.tlb.specs.declared.Entry.{Entry};
 ghost use Rattle.tlb.specs.Walks.{pte_p};
 ghost use Rattle.reach.specs.Lists.{range};
 ghost use Rattle.reach.specs.inner.Marks as x;
 
-// Marks page p in a set, with the write right where w is 1, unless it is beyond memory; whether it is, or one was before.
+// Marks page p in a set, with the write right where w is 1, unless it is beyond memory; whether it is, or one was
+// before.
 fn mark_beside(s: &mut [u8], pages: u32, kind: u32, p: u32, w: u32, beyond: bool) -> bool
     requires { (length s.old ≡ 24576) × (pages ≤ 4096) × (kind < 3) × (w < 2) }
     ensures { x.Beside pages beyond s.old s.new result (x.name kind p w ∷ []) }
@@ -33,7 +33,7 @@ pub(crate) fn mark(s: &mut [u8], pages: u32, kind: u32, p: u32, w: u32) -> bool
 // Marks the page that an entry names, if it is present; whether that page is beyond memory, or one was before.
 fn mark_entry(s: &mut [u8], pages: u32, kind: u32, e: u32, beyond: bool) -> bool
     requires { (length s.old ≡ 24576) × (pages ≤ 4096) × (kind < 3) }
-    ensures { x.Beside pages beyond s.old s.new result (x.entry_name kind (Entry.Word e)) }
+    ensures { x.Beside pages beyond s.old s.new result (x.entry_name kind (Some e)) }
 {
     if tlb::present(e) {
         return mark_beside(s, pages, kind, e / 0x1000, e / 0x100 % 2, beyond);
@@ -79,10 +79,8 @@ fn scan(s: &mut [u8], m: &[u8], pages: u32, kind: u32, p: u32) -> bool
 {
     let start = 4096 * (p as usize);
     let mut beyond = false;
-    let mut i: usize = 0;
-    while i < 256 {
+    for i in 0..256usize {
         beyond = mark_four(s, m, pages, kind, start + 16 * i, beyond);
-        i += 1;
     }
     beyond
 }
@@ -116,11 +114,8 @@ pub(crate) fn pass(s: &mut [u8], m: &[u8], pages: u32, kind: u32) -> bool
     ensures { x.Marked pages s.old s.new result (x.pass_names pages kind m.now s.old) }
 {
     let mut beyond = false;
-    let mut p: u32 = 0;
-    while p < pages {
-        let stray = scan_marked(s, m, pages, kind, p);
-        beyond = beyond | stray;
-        p += 1;
+    for p in 0..pages {
+        beyond |= scan_marked(s, m, pages, kind, p);
     }
     beyond
 }
@@ -148,10 +143,7 @@ pub(crate) fn write_map(map: &mut [u8], s: &[u8], pages: u32)
     requires { (length s.now ≡ 24576) × (pages ≤ 4096) × (length map.old ≡ pages) }
     ensures { map.new ≡ lists.map (x.byte_of s.now) (range pages) }
 {
-    let mut p: u32 = 0;
-    while p < pages {
-        let i = p as usize;
-        map[i] = map_byte(s, p);
-        p += 1;
+    for p in 0..pages {
+        map[p as usize] = map_byte(s, p);
     }
 }

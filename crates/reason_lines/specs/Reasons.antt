@@ -4,7 +4,7 @@ use Rattle.std.specs.Prelude.{if◌then◌else◌, List, [], ◌++◌, ℕ, zero
 use Rattle.io.specs.Digits.{last_digits}
 use Rattle.text.specs.Text.{ascii, decimal}
 use Rattle.ways.specs.Ways.{entry_place}
-use Rattle.reasons.specs.Why.{why_number, why_after, first_words, second_words}
+use Rattle.reasons.specs.Why.{why_number, why_after, why_reason, first_words, second_words}
 use Rattle.reason_lines.specs.declared.Way.{Way}
 
 -- the nine words of a way in an answer (`way_words`)
@@ -53,6 +53,12 @@ spoil_text does more w = does ++ decimal w.page ++ more ++ way_text w
 abbrev pub user_text : Way → List ℕ
 user_text w = ascii "core " ++ decimal w.core ++ ascii " is not running in user mode\n"
 
+-- reason 6: the rest writes a page that the group reaches, or uses it as a table
+abbrev pub touch_text : Way → List ℕ
+touch_text w =
+    if eqb w.level 0 then spoil_text (ascii "the rest can write page ") (ascii ", which the group reaches: ") w
+    else spoil_text (ascii "the rest uses page ") (ascii ", which the group reaches, as a table: ") w
+
 -- the line of a reason by its number
 unfoldable pub fault_text : ℕ → Way → List ℕ
 fault_text n w =
@@ -61,8 +67,7 @@ fault_text n w =
     else if eqb n 3 then spoil_text (ascii "the rest reaches page ") (ascii ", beyond memory: ") w
     else if eqb n 4 then spoil_text (ascii "the group can write its own table page ") (ascii ": ") w
     else if eqb n 5 then spoil_text (ascii "the rest can write its own table page ") (ascii ": ") w
-    else if eqb w.level 0 then spoil_text (ascii "the rest can write page ") (ascii ", which the group reaches: ") w
-    else spoil_text (ascii "the rest uses page ") (ascii ", which the group reaches, as a table: ") w
+    else touch_text w
 
 -- reason 6 has a second line: how the group reaches the page
 abbrev pub own_text : ℕ → Way → List ℕ
@@ -77,5 +82,5 @@ reason_lines zero a g t m = []
 reason_lines (suc d) a g t m =
     if eqb (why_number (why_after a g t m)) 0 then []
     else
-    reason_text (why_number (why_after a g t m)) (way_of (first_words (why_after a g t m))) (way_of (second_words (why_after a g t m)))
+    reason_text (why_number (why_after a g t m)) (way_of (first_words (why_reason (why_after a g t m)))) (way_of (second_words (why_reason (why_after a g t m))))
     ++ reason_lines d (why_number (why_after a g t m)) g t m

@@ -17,43 +17,41 @@ use Rattle.tables.specs.Sound.{sound}
 use Rattle.reach.specs.Lists.{range, has, select}
 use Rattle.reach.specs.Reach.{is_group, members, reach, table_pages, reached}
 use Rattle.reach.proofs.Lists.{In, in_here, in_there, in_left, in_right, in_range, range_in, in_select, Each, if_both}
-use Rattle.separation.specs.declared.Verdict.TheVariants as verdict
+use Rattle.std.specs.Prelude.{Result, Ok, Err}
+use Rattle.std.specs.Option.{is_none}
+use Rattle.refusals.specs.declared.Refusal.{Refusal}
+use Rattle.refusals.specs.declared.Refusal.TheVariants.{Unsound}
+use Rattle.refusals.specs.declared.Refusal.TheVariants as refusal
 use Rattle.separation.specs.Apart.{running_cores, rest, runs_as_user, apart, apart_on}
 use Rattle.ways.specs.declared.Way.{Way}
-use Rattle.ways.specs.declared.Found.{Found}
-use Rattle.ways.specs.declared.Found.TheVariants.{Nothing, Lowest}
+use Rattle.std.specs.Prelude.{Option, None, Some}
 use Rattle.reasons.specs.declared.Side.TheVariants.{Group, Rest}
 use Rattle.reasons.specs.declared.Reason.{Reason}
-use Rattle.reasons.specs.declared.Reason.TheVariants.{NoReason, Refused, NotUser, BeyondMemory, OwnTable, Touches}
+use Rattle.reasons.specs.declared.Reason.TheVariants.{NotUser, BeyondMemory, OwnTable, Touches}
 use Rattle.ways.specs.Ways.{ways, page, lower, lowest_way, Real}
-use Rattle.reasons.specs.Why.{grants, spoils, by_way, way_to, with_own, fails, first_failing, mode_reason, beyond_reason, table_reason, touch_reason, reason_at, side_number, why_number, first_after, why_after}
-use Rattle.reasons.specs.inner.Judging.{is_none}
-use Rattle.reasons.specs.Grounds.{Outside, Written, Met, Grounded, Law}
+use Rattle.reasons.specs.Why.{grants, spoils, by_way, way_to, with_own, fails, first_failing, mode_reason, beyond_reason, table_reason, touch_reason, reason_at, or_else, first_after, why_after, why_number}
+use Rattle.reasons.specs.Grounds.{Outside, Written, Grounded, Law}
 use Rattle.ways.proofs.Lists.{each_weak, each_select}
 use Rattle.ways.proofs.Real.{ways_real}
 use Rattle.reasons.proofs.None.{Holds, lowest_holds, no_reason}
 
-none_is : (x : Reason) → is_none x ≡ true → x ≡ NoReason
-none_is NoReason e = refl
-none_is (Refused n) e = let z = eqb-true (100 + n) 0 e in absurd (omega arith)
-none_is (NotUser k) e = absurd (false≢true e)
-none_is (BeyondMemory s w) e = let z = eqb-true (2 + side_number s) 0 e in absurd (omega arith)
-none_is (OwnTable s w) e = let z = eqb-true (4 + side_number s) 0 e in absurd (omega arith)
-none_is (Touches w v) e = absurd (false≢true e)
+none_is : (x : Option Reason) → is_none x ≡ true → x ≡ None
+none_is None e = refl
+none_is (Some a) e = absurd (false≢true e)
 
 -- the lowest of some ways is one of them
-lowest_is : (G : Reason → Type 0) (f : Way → Reason) (l : List Way) → G NoReason → Each (λ w. G (f w)) l → G (by_way f (lowest_way l))
+lowest_is : (G : Option Reason → Type 0) (f : Way → Reason) (l : List Way) → G None → Each (λ w. G (Some (f w))) l → G (by_way f (lowest_way l))
 unfolding lower lowest_way
 lowest_is G f [] z e = z
 lowest_is G f (w ∷ l) z e = go (lowest_way l) (lowest_is G f l z e.1)
   where
-    pick : (v : Way) (b : Bool) → G (f v) → G (by_way f (if b then Lowest v else Lowest w))
+    pick : (v : Way) (b : Bool) → G (Some (f v)) → G (by_way f (if b then Some v else Some w))
     pick v true h = h
     pick v false h = e.0
 
-    go : (x : Found) → G (by_way f x) → G (by_way f (lower (Lowest w) x))
-    go Nothing h = e.0
-    go (Lowest v) h = pick v (ltb (page v) (page w)) h
+    go : (x : Option Way) → G (by_way f x) → G (by_way f (lower (Some w) x))
+    go None h = e.0
+    go (Some v) h = pick v (ltb (page v) (page w)) h
 
 module _ (cs t m : List ℕ) where
   abbrev R : Way → Type 0
@@ -64,8 +62,8 @@ module _ (cs t m : List ℕ) where
   passing P p f = each_weak (λ w. R w × (p w ≡ true)) P (select p (ways cs t m)) (λ w h. f w h.0 h.1) (each_select R p (ways cs t m) (ways_real cs t m))
 
 module _ (g : ℕ) (t m : List ℕ) where
-  abbrev G : Reason → Type 0
-  G = Grounded g t m
+  abbrev G : Option Reason → Type 0
+  G a = Grounded g t m (Ok a)
 
   abbrev cs : List ℕ
   cs = members g (cores_of t)
@@ -84,7 +82,7 @@ module _ (g : ℕ) (t m : List ℕ) where
   mode_ground : (l : List ℕ) → ((k : ℕ) → In k l → k < cores_of t) → G (first_failing g t l)
   unfolding first_failing
   mode_ground [] f = tt
-  mode_ground (k ∷ l) f = if_both G (fails g t k) (NotUser k) (first_failing g t l) (λ e. (of_side k (f k (in_here k l)) (and_left (is_set g k || runs (block t k)) _ e), not-true (runs_as_user t k) (and_right (is_set g k || runs (block t k)) _ e))) (λ _. mode_ground l (λ j h. f j (in_there j k l h)))
+  mode_ground (k ∷ l) f = if_both G (fails g t k) (Some (NotUser k)) (first_failing g t l) (λ e. (of_side k (f k (in_here k l)) (and_left (is_set g k || runs (block t k)) _ e), not-true (runs_as_user t k) (and_right (is_set g k || runs (block t k)) _ e))) (λ _. mode_ground l (λ j h. f j (in_there j k l h)))
 
   outside : (ks : List ℕ) → Each (Outside ks t m) (select (λ w. not (ltb (page w) (pages_of t))) (ways ks t m))
   outside ks = passing ks t m (Outside ks t m) (λ w. not (ltb (page w) (pages_of t))) (λ w r e. record { real = r; outside = not-true (ltb (page w) (pages_of t)) e })
@@ -99,12 +97,12 @@ module _ (g : ℕ) (t m : List ℕ) where
   touching : Each Touching (select (λ w. spoils w && (ltb (page w) (pages_of t) && has (page w) (reached (reach cs t m)))) (ways os t m))
   touching = passing os t m Touching (λ w. spoils w && (ltb (page w) (pages_of t) && has (page w) (reached (reach cs t m)))) (λ w r e. (r, (and_left (spoils w) _ e, and_right (ltb (page w) (pages_of t)) _ (and_right (spoils w) _ e))))
 
-  met : (f : Found) → Holds Touching f → G (with_own (ways cs t m) f)
+  met : (f : Option Way) → Holds Touching f → G (with_own (ways cs t m) f)
   unfolding way_to
-  met Nothing h = tt
-  met (Lowest w) h =
+  met None h = tt
+  met (Some w) h =
       lowest_is G (Touches w) (select (λ v. eqb (page v) (page w)) (ways cs t m)) tt
-      (passing cs t m (λ v. G (Touches w v)) (λ v. eqb (page v) (page w)) (λ v r e. record { real = h.0; spoiling = h.1.0; is_reached_lem = h.1.1; own_real = r; same_page = eqb-true (page v) (page w) e }))
+      (passing cs t m (λ v. G (Some (Touches w v))) (λ v. eqb (page v) (page w)) (λ v r e. record { real = h.0; spoiling = h.1.0; is_reached_lem = h.1.1; own_real = r; same_page = eqb-true (page v) (page w) e }))
 
   reason_ground : (n : ℕ) → G (reason_at g t m n)
   unfolding reason_at mode_reason beyond_reason table_reason touch_reason
@@ -122,30 +120,38 @@ module _ (g : ℕ) (t m : List ℕ) where
   after_ground : (d a : ℕ) → G (first_after g t m d a)
   unfolding first_after
   after_ground zero a = tt
-  after_ground (suc d) a = if_both G (eqb (why_number (reason_at g t m (a + 1))) 0) (first_after g t m d (a + 1)) (reason_at g t m (a + 1)) (λ _. after_ground d (a + 1)) (λ _. reason_ground (a + 1))
+  after_ground (suc d) a = either_one (reason_at g t m (a + 1)) (reason_ground (a + 1)) (after_ground d (a + 1))
+    where
+      either_one : (x : Option Reason) → G x → G (first_after g t m d (a + 1)) → G (or_else x (first_after g t m d (a + 1)))
+      either_one None f h = h
+      either_one (Some r) f h = f
 
   -- the answer, by what was tested
-  by_tests : (s i : Bool) (x : Reason) → sound t (length m) ≡ s → is_group g (cores_of t) ≡ i → G x → G (if not s then Refused 4 else if not i then Refused 13 else x)
+  by_tests : (s i : Bool) (x : Option Reason) → sound t (length m) ≡ s → is_group g (cores_of t) ≡ i → G x → Grounded g t m (if not s then Err Unsound else if not i then Err refusal.Group else Ok x)
   unfolding apart_on
   by_tests false i x p q f = rw p refl
   by_tests true false x p q f = rw (p, q) refl
   by_tests true true x p q f = f
 
-  none_where : (s i : Bool) (x : Reason) → is_none x ≡ apart g t m → (if not s then verdict.Refused 4 else if not i then verdict.Refused 13 else if apart g t m then verdict.Yes else verdict.No) ≡ verdict.Yes
-      → (if not s then Refused 4 else if not i then Refused 13 else x) ≡ NoReason
+  abbrev Why : Type 0
+  Why = Result (Option Reason) Refusal
+
+  abbrev Verdict : Type 0
+  Verdict = Result Bool Refusal
+
+  none_where : (s i : Bool) (x : Option Reason) → is_none x ≡ apart g t m
+      → ◌≡◌ {A = Verdict} (if not s then Err Unsound else if not i then Err refusal.Group else Ok (apart g t m)) (Ok true)
+      → ◌≡◌ {A = Why} (if not s then Err Unsound else if not i then Err refusal.Group else Ok x) (Ok None)
   none_where false i x e y = let z : ◌≡◌ {A = ℕ} 0 1 = cc in absurd (omega arith)
   none_where true false x e y = let z : ◌≡◌ {A = ℕ} 0 1 = cc in absurd (omega arith)
-  none_where true true x e y = none_is x (e ∙ yes (apart g t m) y)
-    where
-      yes : (b : Bool) → (if b then verdict.Yes else verdict.No) ≡ verdict.Yes → b ≡ true
-      yes true u = refl
-      yes false u = let z : ◌≡◌ {A = ℕ} 0 1 = cc in absurd (omega arith)
+  none_where true true x e y = let h : apart g t m ≡ true = cc in ap Ok (none_is x (e ∙ h))
 
-  apart_where : (s i : Bool) (x : Reason) → is_none x ≡ apart g t m → (if not s then Refused 4 else if not i then Refused 13 else x) ≡ NoReason
-      → (if not s then verdict.Refused 4 else if not i then verdict.Refused 13 else if apart g t m then verdict.Yes else verdict.No) ≡ verdict.Yes
-  apart_where false i x e y = let z : ◌≡◌ {A = ℕ} 104 0 = ap why_number y in absurd (omega arith)
-  apart_where true false x e y = let z : ◌≡◌ {A = ℕ} 113 0 = ap why_number y in absurd (omega arith)
-  apart_where true true x e y = let a : apart g t m ≡ true = sym e ∙ ap is_none y in rw a refl
+  apart_where : (s i : Bool) (x : Option Reason) → is_none x ≡ apart g t m
+      → ◌≡◌ {A = Why} (if not s then Err Unsound else if not i then Err refusal.Group else Ok x) (Ok None)
+      → ◌≡◌ {A = Verdict} (if not s then Err Unsound else if not i then Err refusal.Group else Ok (apart g t m)) (Ok true)
+  apart_where false i x e y = let z : ◌≡◌ {A = ℕ} 0 1 = cc in absurd (omega arith)
+  apart_where true false x e y = let z : ◌≡◌ {A = ℕ} 0 1 = cc in absurd (omega arith)
+  apart_where true true x e y = let h : x ≡ None = cc in ap Ok (sym e ∙ ap is_none h)
 
   pub why_law : Law g t m
   unfolding why_after apart_on
@@ -157,12 +163,12 @@ module _ (g : ℕ) (t m : List ℕ) where
       }
 
 -- what the function promises of its answer, each clause by its name
-pub promised : (a g : ℕ) (t m : List ℕ) (r : Reason) → r ≡ why_after a g t m → record {
+pub promised : (a g : ℕ) (t m : List ℕ) (r : Result (Option Reason) Refusal) → r ≡ why_after a g t m → record {
   value : r ≡ why_after a g t m;
   grounded : Grounded g t m r;
-  m_value : a ≡ 0 → r ≡ NoReason → apart_on g t m ≡ verdict.Yes;
-  value_2 : a ≡ 0 → apart_on g t m ≡ verdict.Yes → r ≡ NoReason;
-  result_value : why_number r ≡ why_number (why_after a g t m);
+  m_value : a ≡ 0 → r ≡ Ok None → apart_on g t m ≡ Ok true;
+  value_2 : a ≡ 0 → apart_on g t m ≡ Ok true → r ≡ Ok None;
+  number : why_number r ≡ why_number (why_after a g t m);
 }
 promised a g t m r e =
     let L : Law g t m = why_law g t m in
@@ -172,5 +178,5 @@ promised a g t m r e =
       grounded = subst (Grounded g t m) (sym e) (L.grounded a);
       m_value = λ z n. L.apart_where_none (sym (at z) ∙ n);
       value_2 = λ z y. at z ∙ L.none_where_apart y;
-      result_value = ap (λ (x : Reason). why_number x) e;
+      number = ap why_number e;
     }

@@ -1,10 +1,10 @@
 -- There is no reason exactly where the group is apart.
 -- Assumes nothing.
-use Rattle.std.specs.Prelude.{if◌then◌else◌}
+use Rattle.std.specs.Prelude.{if◌then◌else◌, Option, Some, None}
 use mathlib.Core.Path.{◌≡◌, refl, sym, ap, ap₂, ◌∙◌}
 use mathlib.Core.Bool.{Bool, true, false, ◌&&◌, ◌||◌, not}
 use mathlib.Core.List.{List, [], ◌∷◌, ◌++◌, map, flat_map}
-use Prim.Native.Nat.{ℕ, zero, suc, ◌+◌, ◌-◌}
+use Prim.Native.Nat.{ℕ, zero, suc, ◌-◌}
 use lib.Dec.{eqb, ltb}
 use native.Mathlib.Omega.{arith}
 use borrow.Author.Tests.{eqb-true, eq-eqb, le-ltb, ne_eqb, not-true}
@@ -13,8 +13,6 @@ use Rattle.word.proofs.Truth.{and_left, and_right, and-true, and_assoc, and_turn
 use Rattle.layout.specs.Blocks.{block}
 use Rattle.records.specs.Records.{all}
 use Rattle.tables.specs.Views.{cores_of, pages_of, runs}
-use Rattle.tlb.specs.declared.Entry.{Entry}
-use Rattle.tlb.specs.declared.Entry.TheVariants.{Word, Missing}
 use Rattle.tlb.specs.Walks.{entry_at, ptea_at, pte_p, pte_r, pte_ba}
 use Rattle.reach.specs.Lists.{range, has, select}
 use Rattle.reach.specs.Reach.{Pages, members, grants_write, reach, table_pages, reached, in_memory}
@@ -23,15 +21,14 @@ use Rattle.separation.specs.Apart.{rest, runs_as_user, disjoint, closed, pages_a
 use Rattle.separation.proofs.Deciding.{users_are}
 use Rattle.ways.specs.declared.Named.{Named}
 use Rattle.ways.specs.declared.Way.{Way}
-use Rattle.ways.specs.declared.Found.{Found}
-use Rattle.ways.specs.declared.Found.TheVariants.{Nothing, Lowest}
+use Rattle.std.specs.Prelude.{Option, None, Some}
 use Rattle.reasons.specs.declared.Side.{Side}
 use Rattle.reasons.specs.declared.Side.TheVariants.{Group, Rest}
 use Rattle.reasons.specs.declared.Reason.{Reason}
-use Rattle.reasons.specs.declared.Reason.TheVariants.{NoReason, NotUser, BeyondMemory, OwnTable, Touches}
+use Rattle.reasons.specs.declared.Reason.TheVariants.{NotUser, BeyondMemory, OwnTable, Touches}
 use Rattle.ways.specs.Ways.{naming, roots, root_way, entry_named, next_named, further, next_ways, onward, all_from, core_ways, ways, page, lower, lowest_way}
-use Rattle.reasons.specs.Why.{grants, spoils, by_way, way_to, with_own, fails, first_failing, mode_reason, beyond_reason, table_reason, touch_reason, reason_at, side_number, or_else, first_after}
-use Rattle.reasons.specs.inner.Judging.{is_none}
+use Rattle.reasons.specs.Why.{grants, spoils, by_way, way_to, with_own, fails, first_failing, mode_reason, beyond_reason, table_reason, touch_reason, reason_at, or_else, first_after}
+use Rattle.std.specs.Option.{is_none}
 use Rattle.ways.proofs.Lists.{flat_flat, each_map, each_weak, each_select, each_through, all_map, all_ext, all_flat_map, all_both, all_selected}
 use Rattle.ways.proofs.Pages.{root_ways, at_level, first_ways, second_ways, data_ways, write_ways, first_pages_lem, second_pages_lem, data_pages_lem, writable_pages_lem}
 
@@ -151,13 +148,13 @@ down m l w e =
     each_flat_map (AtLevel (l - 1)) (λ (i : ℕ). map (further w i) (next_named m w.names i)) (range 1024)
     (λ i. each_map (AtLevel (l - 1)) (further w i) (next_named m w.names i) (one (entry_at m (ptea_at w.names.page i))))
   where
-    one : (v : Entry) → Each (λ (y : Named). y.level ≡ l - 1) (entry_named w.names v)
-    one (Word v) = by (pte_p v)
+    one : (v : Option ℕ) → Each (λ (y : Named). y.level ≡ l - 1) (entry_named w.names v)
+    one (Some v) = by (pte_p v)
       where
         by : (p : Bool) → Each (λ (y : Named). y.level ≡ l - 1) (if p then naming (w.names.level - 1) (pte_ba v) (grants_write (pte_r v)) ∷ [] else [])
         by true = (ap (λ (n : ℕ). n - 1) e, tt)
         by false = tt
-    one Missing = tt
+    one None = tt
 
 -- two tests that agree where all elements are
 all_where : {A : Type 0} (P : A → Type 0) (t u : A → Bool) (l : List A) → ((x : A) → P x → t x ≡ u x) → Each P l → all t l ≡ all u l
@@ -265,43 +262,36 @@ each_any : (l : List Way) → Each (λ w. Unit {0}) l
 each_any [] = tt
 each_any (w ∷ l) = (tt, each_any l)
 
-or_none : (a b : Reason) → is_none (or_else a b) ≡ is_none a && is_none b
-or_none a b = go (is_none a) refl
-  where
-    go : (x : Bool) → is_none a ≡ x → is_none (if x then b else a) ≡ x && is_none b
-    go true e = refl
-    go false e = e
+or_none : (a b : Option Reason) → is_none (or_else a b) ≡ is_none a && is_none b
+or_none None b = refl
+or_none (Some a) b = refl
 
-abbrev pub is_nothing : Found → Bool
-is_nothing Nothing = true
-is_nothing (Lowest w) = false
-
-some : (w : Way) (f : Found) → is_nothing (lower (Lowest w) f) ≡ false
+some : (w : Way) (f : Option Way) → is_none (lower (Some w) f) ≡ false
 unfolding lower
-some w Nothing = refl
-some w (Lowest v) = go (ltb (page v) (page w))
+some w None = refl
+some w (Some v) = go (ltb (page v) (page w))
   where
-    go : (b : Bool) → is_nothing (if b then Lowest v else Lowest w) ≡ false
+    go : (b : Bool) → is_none (if b then Some v else Some w) ≡ false
     go true = refl
     go false = refl
 
-pub lowest_nothing : (p : Way → Bool) (l : List Way) → is_nothing (lowest_way (select p l)) ≡ all (λ w. not (p w)) l
+pub lowest_none : (p : Way → Bool) (l : List Way) → is_none (lowest_way (select p l)) ≡ all (λ w. not (p w)) l
 unfolding lower lowest_way select all
-lowest_nothing p [] = refl
-lowest_nothing p (w ∷ l) = go (p w) (lowest_nothing p l)
+lowest_none p [] = refl
+lowest_none p (w ∷ l) = go (p w) (lowest_none p l)
   where
-    go : (b : Bool) → is_nothing (lowest_way (select p l)) ≡ all (λ v. not (p v)) l → is_nothing (lowest_way (if b then w ∷ select p l else select p l)) ≡ not b && all (λ v. not (p v)) l
+    go : (b : Bool) → is_none (lowest_way (select p l)) ≡ all (λ v. not (p v)) l → is_none (lowest_way (if b then w ∷ select p l else select p l)) ≡ not b && all (λ v. not (p v)) l
     go true e = some w (lowest_way (select p l))
     go false e = e
 
-by_way_lem : (f : Way → Reason) → ((w : Way) → is_none (f w) ≡ false) → (x : Found) → is_none (by_way f x) ≡ is_nothing x
-by_way_lem f h Nothing = refl
-by_way_lem f h (Lowest w) = h w
+by_way_lem : (f : Way → Reason) (x : Option Way) → is_none (by_way f x) ≡ is_none x
+by_way_lem f None = refl
+by_way_lem f (Some w) = refl
 
 -- what was found, if anything
-abbrev pub Holds : (Way → Type 0) → Found → Type 0
-Holds P Nothing = Unit {0}
-Holds P (Lowest w) = P w
+abbrev pub Holds : (Way → Type 0) → Option Way → Type 0
+Holds P None = Unit {0}
+Holds P (Some w) = P w
 
 -- the lowest of some ways is one of them
 pub lowest_holds : (P : Way → Type 0) (l : List Way) → Each P l → Holds P (lowest_way l)
@@ -309,28 +299,28 @@ unfolding lower lowest_way
 lowest_holds P [] e = tt
 lowest_holds P (w ∷ l) e = go (lowest_way l) (lowest_holds P l e.1)
   where
-    pick : (v : Way) (b : Bool) → P v → Holds P (if b then Lowest v else Lowest w)
+    pick : (v : Way) (b : Bool) → P v → Holds P (if b then Some v else Some w)
     pick v true h = h
     pick v false h = e.0
 
-    go : (x : Found) → Holds P x → Holds P (lower (Lowest w) x)
-    go Nothing h = e.0
-    go (Lowest v) h = pick v (ltb (page v) (page w)) h
+    go : (x : Option Way) → Holds P x → Holds P (lower (Some w) x)
+    go None h = e.0
+    go (Some v) h = pick v (ltb (page v) (page w)) h
 
 -- a page that is reached has a way to it
-way_there : (cs t m : List ℕ) (p : ℕ) → has p (reached (reach cs t m)) ≡ true → is_nothing (way_to p (ways cs t m)) ≡ false
+way_there : (cs t m : List ℕ) (p : ℕ) → has p (reached (reach cs t m)) ≡ true → is_none (way_to p (ways cs t m)) ≡ false
 unfolding way_to
 way_there cs t m p h =
-    lowest_nothing (λ w. eqb (page w) p) (ways cs t m)
+    lowest_none (λ w. eqb (page w) p) (ways cs t m)
     ∙ reached_all cs t m (λ x. not (eqb x p))
     ∙ tested (all (λ x. not (eqb x p)) (reached (reach cs t m)))
     (λ e. clash (eqb p p) (eq-eqb p p refl) (not-true (eqb p p) (all_in (λ x. not (eqb x p)) (reached (reach cs t m)) p e h)))
     (λ e. e)
 
 -- so the group's own way is there wherever that of the rest is
-with_own_lem : (cs t m : List ℕ) (f : Found) → Holds (λ w. has (page w) (reached (reach cs t m)) ≡ true) f → is_none (with_own (ways cs t m) f) ≡ is_nothing f
-with_own_lem cs t m Nothing h = refl
-with_own_lem cs t m (Lowest w) h = by_way_lem (Touches w) (λ v. refl) (way_to (page w) (ways cs t m)) ∙ way_there cs t m (page w) h
+with_own_lem : (cs t m : List ℕ) (f : Option Way) → Holds (λ w. has (page w) (reached (reach cs t m)) ≡ true) f → is_none (with_own (ways cs t m) f) ≡ is_none f
+with_own_lem cs t m None h = refl
+with_own_lem cs t m (Some w) h = by_way_lem (Touches w) (way_to (page w) (ways cs t m)) ∙ way_there cs t m (page w) h
 
 -- a guard that all pages pass
 guarded : (n : ℕ) (h : ℕ → Bool) (l : List ℕ) → all (λ p. ltb p n) l ≡ true → all (λ p. not (ltb p n && h p)) l ≡ all (λ p. not (h p)) l
@@ -350,8 +340,8 @@ module _ (s : Side) (cs t m : List ℕ) where
   beyond_none : is_none (beyond_reason s cs t m) ≡ in_memory (reach cs t m) (pages_of t)
   unfolding beyond_reason in_memory
   beyond_none =
-      by_way_lem (BeyondMemory s) (λ w. ne_eqb (2 + side_number s) 0 (λ z. omega arith)) (lowest_way (select (λ w. not (ltb (page w) (pages_of t))) (ways cs t m)))
-      ∙ lowest_nothing (λ w. not (ltb (page w) (pages_of t))) (ways cs t m)
+      by_way_lem (BeyondMemory s) (lowest_way (select (λ w. not (ltb (page w) (pages_of t))) (ways cs t m)))
+      ∙ lowest_none (λ w. not (ltb (page w) (pages_of t))) (ways cs t m)
       ∙ all_ext (λ w. not (not (ltb (page w) (pages_of t)))) (λ w. ltb (page w) (pages_of t)) (ways cs t m) (λ w. twice (ltb (page w) (pages_of t)))
       ∙ reached_all cs t m (λ p. ltb p (pages_of t))
     where
@@ -362,8 +352,8 @@ module _ (s : Side) (cs t m : List ℕ) where
   table_none : in_memory (reach cs t m) (pages_of t) ≡ true → is_none (table_reason s cs t m) ≡ closed (reach cs t m)
   unfolding table_reason in_memory disjoint
   table_none e =
-      by_way_lem (OwnTable s) (λ w. ne_eqb (4 + side_number s) 0 (λ z. omega arith)) (lowest_way (select (λ w. grants w && r (page w)) (ways cs t m)))
-      ∙ lowest_nothing (λ w. grants w && r (page w)) (ways cs t m)
+      by_way_lem (OwnTable s) (lowest_way (select (λ w. grants w && r (page w)) (ways cs t m)))
+      ∙ lowest_none (λ w. grants w && r (page w)) (ways cs t m)
       ∙ grants_all cs t m r
       ∙ guarded (pages_of t) (λ p. has p (table_pages S)) S.writables (and_right (all low S.datas) _ (rw (all_append low S.datas S.writables) at (and_right (all low (table_pages S)) _ (rw (all_append low (table_pages S) (S.datas ++ S.writables)) at e))))
     where
@@ -387,7 +377,7 @@ module _ (cs os t m : List ℕ) where
   unfolding touch_reason in_memory disjoint
   touch_none e =
       with_own_lem cs t m (lowest_way (select (λ w. spoils w && r (page w)) (ways os t m))) (lowest_holds (λ w. has (page w) (reached P) ≡ true) (select (λ w. spoils w && r (page w)) (ways os t m)) met)
-      ∙ lowest_nothing (λ w. spoils w && r (page w)) (ways os t m)
+      ∙ lowest_none (λ w. spoils w && r (page w)) (ways os t m)
       ∙ spoils_all os t m r
       ∙ guarded (pages_of t) (λ p. has p (reached P)) (Q.writables ++ table_pages Q) low_all
       ∙ either_way (Q.writables ++ table_pages Q) (reached P)
@@ -416,7 +406,7 @@ unfolding first_failing all
 failing g t [] = refl
 failing g t (k ∷ l) = go (fails g t k) (failing g t l)
   where
-    go : (b : Bool) → is_none (first_failing g t l) ≡ all (λ j. not (fails g t j)) l → is_none (if b then NotUser k else first_failing g t l) ≡ not b && all (λ j. not (fails g t j)) l
+    go : (b : Bool) → is_none (first_failing g t l) ≡ all (λ j. not (fails g t j)) l → is_none (if b then Some (NotUser k) else first_failing g t l) ≡ not b && all (λ j. not (fails g t j)) l
     go true e = refl
     go false e = e
 
@@ -458,8 +448,8 @@ no_reason g t m =
     n : ℕ
     n = pages_of t
 
-    tables : is_none (or_else (table_reason Group cs t m) (or_else (table_reason Rest os t m) (or_else (touch_reason cs os t m) NoReason))) ≡ (is_none (table_reason Group cs t m) && is_none (table_reason Rest os t m)) && is_none (touch_reason cs os t m)
+    tables : is_none (or_else (table_reason Group cs t m) (or_else (table_reason Rest os t m) (or_else (touch_reason cs os t m) None))) ≡ (is_none (table_reason Group cs t m) && is_none (table_reason Rest os t m)) && is_none (touch_reason cs os t m)
     tables =
         or_none (table_reason Group cs t m) _
-        ∙ ap (λ (z : Bool). is_none (table_reason Group cs t m) && z) (or_none (table_reason Rest os t m) _ ∙ ap (λ (z : Bool). is_none (table_reason Rest os t m) && z) (or_none (touch_reason cs os t m) NoReason ∙ and-true (is_none (touch_reason cs os t m))))
+        ∙ ap (λ (z : Bool). is_none (table_reason Group cs t m) && z) (or_none (table_reason Rest os t m) _ ∙ ap (λ (z : Bool). is_none (table_reason Rest os t m) && z) (or_none (touch_reason cs os t m) None ∙ and-true (is_none (touch_reason cs os t m))))
         ∙ and_assoc (is_none (table_reason Group cs t m)) (is_none (table_reason Rest os t m)) (is_none (touch_reason cs os t m))

@@ -25,72 +25,60 @@ fn record_number(r: Root) -> u32
     }
 }
 
-fn put_way(words: &mut [u32], way: Way)
-    requires { length words.old ≡ 9 }
-    ensures { words.new ≡ why.way_words way }
+#[tactic(auto, unfolding(crate::specs::Why::way_words))]
+fn way_words(way: Way) -> [u32; 9]
+    ensures { result ≡ why.way_words way }
 {
-    let root = way.root;
-    words[0] = way.core;
-    words[1] = way.names.page;
-    words[2] = way.names.level;
-    words[3] = word::flag(way.names.write);
-    words[4] = root_number(root);
-    words[5] = record_number(root);
-    words[6] = way.entries;
-    words[7] = way.first;
-    words[8] = way.second;
+    [
+        way.core,
+        way.names.page,
+        way.names.level,
+        u32::from(way.names.write),
+        root_number(way.root),
+        record_number(way.root),
+        way.entries,
+        way.first,
+        way.second,
+    ]
 }
 
-fn put_core(words: &mut [u32], k: u32)
-    requires { length words.old ≡ 9 }
-    ensures { words.new ≡ why.core_words k }
+#[tactic(auto, unfolding(crate::specs::Why::core_words))]
+fn core_words(k: u32) -> [u32; 9]
+    ensures { result ≡ why.core_words k }
 {
-    words[0] = k;
-    words[1] = 0;
-    words[2] = 0;
-    words[3] = 0;
-    words[4] = 0;
-    words[5] = 0;
-    words[6] = 0;
-    words[7] = 0;
-    words[8] = 0;
+    [k, 0, 0, 0, 0, 0, 0, 0, 0]
 }
 
-// Writes an answer, but for its second way.
-pub fn put(words: &mut [u32], a: Reason)
-    requires { length words.old ≡ 9 }
-    ensures { words.new ≡ why.first_words a }
+// The words of an answer, but for its second way.
+#[tactic(auto, unfolding(crate::specs::Why::first_words))]
+pub fn first_words(a: Option<Reason>) -> [u32; 9]
+    ensures { result ≡ why.first_words a }
 {
     match a {
-        Reason::NoReason => put_core(words, 0),
-        Reason::Refused(_) => put_core(words, 0),
-        Reason::NotUser(k) => put_core(words, k),
-        Reason::BeyondMemory(_, way) => put_way(words, way),
-        Reason::OwnTable(_, way) => put_way(words, way),
-        Reason::Touches(way, _) => put_way(words, way),
+        None => core_words(0),
+        Some(Reason::NotUser(k)) => core_words(k),
+        Some(Reason::BeyondMemory(_, way)) => way_words(way),
+        Some(Reason::OwnTable(_, way)) => way_words(way),
+        Some(Reason::Touches(way, _)) => way_words(way),
     }
 }
 
-// Writes the second way of an answer, or zeros where it has none.
-pub fn put_second(words: &mut [u32], a: Reason)
-    requires { length words.old ≡ 9 }
-    ensures { words.new ≡ why.second_words a }
+// The words of the second way of an answer, or zeros where it has none.
+#[tactic(auto, unfolding(crate::specs::Why::second_words))]
+pub fn second_words(a: Option<Reason>) -> [u32; 9]
+    ensures { result ≡ why.second_words a }
 {
     match a {
-        Reason::NoReason => put_core(words, 0),
-        Reason::Refused(_) => put_core(words, 0),
-        Reason::NotUser(_) => put_core(words, 0),
-        Reason::BeyondMemory(_, _) => put_core(words, 0),
-        Reason::OwnTable(_, _) => put_core(words, 0),
-        Reason::Touches(_, way) => put_way(words, way),
+        Some(Reason::Touches(_, way)) => way_words(way),
+        _ => core_words(0),
     }
 }
 
 // Writes an answer with both of its ways.
-pub(crate) fn put_both(words: &mut [u32], a: Reason)
+pub(crate) fn put_both(words: &mut [u32], a: Option<Reason>)
     requires { length words.old ≡ 18 }
     ensures { words.new ≡ why.why_words a }
 {
-    put(&mut words[..9], a);
-    put_second(&mut words[9..], a);
+    words[..9].copy_from_slice(&first_words(a));
+    words[9..].copy_from_slice(&second_words(a));
 }

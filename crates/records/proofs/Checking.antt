@@ -13,7 +13,7 @@ use borrow.Author.Tests.{ltb-true, lt-ltb, le-ltb, le-leb, lt-leb, eq-eqb, ne_eq
 use Rattle.layout.specs.Layout.{record_at}
 use Rattle.word.specs.Word.{flag}
 use Rattle.word.proofs.Truth.{and_left, and_both}
-use Rattle.records.specs.Records.{chain, chain_at, count, each, all, small}
+use Rattle.records.specs.Records.{chain, chain_at, count, all, small}
 use Rattle.records.specs.declared.check.Rule.{Rule}
 use Rattle.records.specs.inner.Rules.{obeys, fits_rule, chain_fits}
 use Rattle.records.specs.inner.Tallied.{Tallied}
@@ -167,47 +167,3 @@ module _ (b : List ℕ) (h : ℕ) (rule : Rule) (most : ℕ) (s : List ℕ) wher
 
     pub tally_bad : n ≢ 0 → n < 32 → obeys rule b n ≡ false → Tallied b h rule most s t false
     tally_bad d l o = unfit d (rw (lt-ltb n 32 l, o))
-
--- the length of a chain
-pub record Measuring (b : List ℕ) (h n k l : ℕ) : Type 0 where
-  pub check : Checking small b h n k
-  pub sum : l + length (chain k b n) ≡ length (chain_at b h)
-  pub bound : l + k ≤ 32
-
-module _ (b : List ℕ) (h : ℕ) where
-  pub measure_start : Measuring b h (get_or b h 0) 32 0
-  measure_start = record { check = check_start small b h; sum = omega arith; bound = omega arith }
-
-  module _ (n k l : ℕ) (C : Measuring b h n k l) where
-    pub measure_next : all small (chain_at b h) ≡ true → 0 < k → n ≢ 0 → Measuring b h (get_or b (record_at n) 0) (k - 1) (l + 1)
-    measure_next e p d =
-        record {
-          check = check_low_next b h n k e C.check p d;
-          sum = omega (arith, C.sum, ap (λ (r : List ℕ). length r) (chain_step k b n p d));
-          bound = omega (arith, C.bound);
-        }
-
-    pub measure_zero : n ≡ 0 → l ≡ length (chain_at b h)
-    measure_zero e = omega (arith, C.sum, ap (λ (r : List ℕ). length r) (chain_zero k b n e))
-
-    pub measure_out : k ≤ 0 → l ≡ length (chain_at b h)
-    measure_out e = omega (arith, C.sum, ap (λ (r : List ℕ). length r) (chain_none k b n (omega arith)))
-
--- a test of each number
-pub each_step : (q : ℕ → Bool) (k : ℕ) → 0 < k → each k q ≡ q k && each (k - 1) q
-unfolding each
-each_step q zero p = absurd (omega arith)
-each_step q (suc k) p =
-    let e : k ≡ suc k - 1 = omega arith in
-    ap (λ (j : ℕ). q (suc k) && each j q) e
-
-pub each_none : (q : ℕ → Bool) (k : ℕ) → k ≤ 0 → each k q ≡ true
-unfolding each
-each_none q zero p = refl
-each_none q (suc k) p = absurd (omega arith)
-
-pub each_fail : (q : ℕ → Bool) (k : ℕ) → 0 < k → q k ≡ false → each k q ≡ false
-each_fail q k p e = rw e at (each_step q k p)
-
-pub each_next : (q : ℕ → Bool) (k : ℕ) → 0 < k → q k ≡ true → each (k - 1) q ≡ each k q
-each_next q k p e = sym (rw e at (each_step q k p))

@@ -1,4 +1,5 @@
--- The laws of the operations on linked records: what each does to the stores, the walks and the words below the records.
+-- The laws of the operations on linked records: what each does to the stores, the walks and the words below the
+-- records.
 -- Assumes nothing.
 use mathlib.Core.Path.{◌≡◌, refl, sym, ap, ◌∙◌}
 use mathlib.Core.Logic.{◌≢◌}

@@ -11,6 +11,7 @@ pub mod Low
 pub mod Laws
 pub mod Checking
 pub mod Fold
+pub mod Iterate
 pub mod Stores
 pub mod Whole
 pub mod Contents

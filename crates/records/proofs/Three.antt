@@ -21,7 +21,8 @@ Held = ℕ × ℕ × ℕ
 abbrev pub held : List ℕ → ℕ → Held
 held b n = (get_or b (record_at n + 1) 0, get_or b (record_at n + 2) 0, get_or b (record_at n + 3) 0)
 
--- the words h and g hold the heads of the chains ms and os, free_head that of fs; each of records 1 to 31 is on one of them, once
+-- the words h and g hold the heads of the chains ms and os, free_head that of fs; each of records 1 to 31 is on one of
+-- them, once
 pub record Three (b : List ℕ) (h : ℕ) (ms : List ℕ) (g : ℕ) (os fs : List ℕ) : Type 0 where
   pub long : length b ≡ 256
   pub low_h : h < free_head

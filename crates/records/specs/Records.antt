@@ -156,7 +156,8 @@ take_store b = release b store_head
 unfoldable pub add_walk : List ℕ → Walk → List ℕ
 add_walk b w = elim (among w (walks b)) [ true ↦ b | false ↦ insert b walk_head w.first w.second 0 ]
 
--- a walk's first word is va * 4096 + asid * 64 + level * 8 + rights; its page and address space are one number, va * 64 + asid
+-- a walk's first word is va * 4096 + asid * 64 + level * 8 + rights; its page and address space are one number, va * 64
+-- + asid
 abbrev pub walk_key : ℕ → ℕ
 walk_key first = first / 64
 
@@ -169,7 +170,8 @@ goes All first = true
 goes (Page p) first = eqb (walk_key first) p
 goes (Incomplete p) first = not (eqb (level_of first) 0) || eqb (walk_key first) p
 
--- over the records of a chain, whose first link stands in the word `at`: each whose first word is hit is released, one after the other
+-- over the records of a chain, whose first link stands in the word `at`: each whose first word is hit is released, one
+-- after the other
 unfoldable pub sweep : (ℕ → Bool) → List ℕ → ℕ → List ℕ → List ℕ
 sweep hit b at [] = b
 sweep hit b at (x ∷ l) =

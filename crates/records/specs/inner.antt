@@ -1,5 +1,7 @@
--- What serves contracts and proofs inside alone. Nothing here has to be believed: each file names the law that ties it to the rest.
+-- What serves contracts and proofs inside alone. Nothing here has to be believed: each file names the law that ties it
+-- to the rest.
 -- Assumes nothing.
+pub mod Chains
 pub mod Rules
 pub mod Tallied
 pub mod Walks

@@ -5,6 +5,7 @@ ghost use Rattle.records.specs.Contents as y;
 ghost use Rattle.records.specs.inner.Rules as z;
 ghost use Rattle.records.specs.inner.Tallied.{Tallied};
 
+use super::chain::Chain;
 use super::{Store, Walk};
 use layout::{
     FREE_HEAD, IO_PORT_BYTES, IO_PORTS, LOCAL_PORT_BYTES, LOCAL_PORTS, RECORD_WORDS, RECORDS,
@@ -12,6 +13,7 @@ use layout::{
 };
 
 // Counts the records of a chain. False if there are more than `most`, or one is 32 or more or breaks the rule.
+// A loop, and no `Chain`: whether these words are a chain at all is what it finds out.
 fn tally(b: &[u32], head: usize, rule: Rule, most: usize, seen: &mut [u8; 32]) -> bool
     requires b_len { length b.now ≡ 256 }
     requires head_bound { head < 256 }
@@ -44,14 +46,7 @@ fn tally(b: &[u32], head: usize, rule: Rule, most: usize, seen: &mut [u8; 32]) -
 fn each_once(seen: &[u8; 32]) -> bool
     ensures { result ≡ x.each 31 (λ n. eqb (get_or seen.now n 0) 1) }
 {
-    let mut k: usize = 31;
-    while 0 < k {
-        if seen[k] != 1 {
-            return false;
-        }
-        k -= 1;
-    }
-    true
+    seen[1..].iter().all(|n| *n == 1)
 }
 
 // Whether each of records 1 to 31 is on the chains once, no other is, and each chain keeps its length and its rule.
@@ -72,39 +67,18 @@ fn records_once(b: &[u32], bytes: usize) -> bool
     each_once(&seen)
 }
 
-// The length of a chain.
-pub(crate) fn chain_length(b: &[u32], head: usize) -> usize
-    requires b_len { length b.now ≡ 256 }
-    requires head_bound { head < 256 }
-    requires head_value { x.all x.small (x.chain_at b.now head) ≡ true }
-    ensures { result ≡ length (x.chain_at b.now head) }
-{
-    let mut n = b[head];
-    let mut k: usize = 32;
-    let mut l: usize = 0;
-    while 0 < k {
-        if n == 0 {
-            return l;
-        }
-        n = b[RECORDS + RECORD_WORDS * (n as usize)];
-        l += 1;
-        k -= 1;
-    }
-    l
-}
-
 // Whether an address is one of the local APIC's port bytes.
 pub fn is_local_port(a: usize) -> bool
     ensures { result ≡ y.local_port a }
 {
-    (LOCAL_PORTS <= a) & (a < LOCAL_PORTS + LOCAL_PORT_BYTES)
+    (LOCAL_PORTS..LOCAL_PORTS + LOCAL_PORT_BYTES).contains(&a)
 }
 
 // Whether an address is one of the I/O APIC's port bytes.
 pub fn is_io_port(a: usize) -> bool
     ensures { result ≡ y.io_port a }
 {
-    (IO_PORTS <= a) & (a < IO_PORTS + IO_PORT_BYTES)
+    (IO_PORTS..IO_PORTS + IO_PORT_BYTES).contains(&a)
 }
 
 // Whether a byte is in memory of `bytes` bytes or in a port.
@@ -186,52 +160,18 @@ fn first_blank(b: &[u32]) -> bool
     (b[RECORDS] == 0) & obeys(b, 0, Rule::Blank)
 }
 
-// Whether the walk is among those from record `start` on, of which `fuel` may follow.
-pub(crate) fn walk_from(b: &[u32], start: u32, fuel: usize, w: Walk) -> bool
-    requires b_len { length b.now ≡ 256 }
-    requires start_value { x.all x.small (x.chain fuel b.now start) ≡ true }
-    ensures { result ≡ x.among w (map (x.walk_in b.now) (x.chain fuel b.now start)) }
-{
-    let first = w.first;
-    let second = w.second;
-    let mut n = start;
-    let mut k = fuel;
-    while 0 < k {
-        if n == 0 {
-            return false;
-        }
-        let i = RECORDS + RECORD_WORDS * (n as usize);
-        if (b[i + 1] == first) & (b[i + 2] == second) {
-            return true;
-        }
-        n = b[i];
-        k -= 1;
-    }
-    false
-}
-
 // Whether no two walks are the same.
 fn walks_differ(b: &[u32]) -> bool
     requires b_len { length b.now ≡ 256 }
     requires b_value { x.all x.small (x.walk_numbers b.now) ≡ true }
     ensures { result ≡ x.differing (x.walks b.now) }
 {
-    let mut n = b[WALK_HEAD];
-    let mut k: usize = 32;
-    while 0 < k {
-        if n == 0 {
-            return true;
-        }
-        let i = RECORDS + RECORD_WORDS * (n as usize);
-        let next = b[i];
-        let first = b[i + 1];
-        let second = b[i + 2];
-        let w = Walk { first, second };
-        if walk_from(b, next, k - 1, w) {
+    let mut rest = Chain::at(b, WALK_HEAD);
+    while let Some(record) = rest.next() {
+        let mut others = rest;
+        if others.any(|other| other.walk() == record.walk()) {
             return false;
         }
-        n = next;
-        k -= 1;
     }
     true
 }

@@ -1,25 +1,58 @@
 // The records of a core's block: pending stores and walks in chains of records (specs/Records.antt).
 #![tactic(auto)]
 
+pub mod chain;
 pub mod check;
 
 ghost use Rattle.std.specs.Prelude.{◌≡◌, true, ◌+◌, ◌*◌, ◌<◌, length, get_or};
 ghost use Rattle.layout.specs.Layout.{store_head, free_head};
 ghost use Rattle.records.specs.Records as x;
+ghost use Rattle.records.specs.inner.Chains.{store_of, walk_of};
 
+use chain::Chain;
 use layout::{FREE_HEAD, RECORD_WORDS, RECORDS, STORE_HEAD, WALK_HEAD};
 
-#[derive(Clone, Copy)]
+#[derive(Clone, Copy, Debug, PartialEq, Eq)]
 pub struct Store {
     pub address: u32,
     pub value: u32,
     pub width: u32,
 }
 
-#[derive(Clone, Copy)]
+#[derive(Clone, Copy, Debug, PartialEq, Eq)]
 pub struct Walk {
     pub first: u32,
     pub second: u32,
+}
+
+// A record: its number and the three words after its link.
+#[derive(Clone, Copy)]
+pub struct Record {
+    pub number: u32,
+    pub first: u32,
+    pub second: u32,
+    pub last: u32,
+}
+
+impl Record {
+    pub fn store(self) -> Store
+        ensures { result ≡ store_of self }
+    {
+        Store {
+            address: self.first,
+            value: self.second,
+            width: self.last,
+        }
+    }
+
+    pub fn walk(self) -> Walk
+        ensures { result ≡ walk_of self }
+    {
+        Walk {
+            first: self.first,
+            second: self.second,
+        }
+    }
 }
 
 // Which walks go: all; those of a page and address space (va * 64 + asid); those and the incomplete ones.
@@ -31,6 +64,7 @@ pub enum Flush {
 }
 
 // The record whose number stands in the word `at` leaves its chain and goes, blank, to the front of the free chain.
+// Both this and `insert` move three links, but other ones: a common function would take all six places.
 fn release(b: &mut [u32], at: usize)
     requires b_len { length b.old ≡ 256 }
     requires at_bound { at < 256 }
@@ -74,13 +108,9 @@ fn stores_end(b: &[u32]) -> usize
     requires b_value { x.linked b.now ≡ true }
     ensures { result ≡ x.end_of store_head (x.store_numbers b.now) }
 {
-    let mut at: usize = STORE_HEAD;
-    let mut n = b[STORE_HEAD];
-    while n != 0 {
-        at = RECORDS + RECORD_WORDS * (n as usize);
-        n = b[at];
-    }
-    at
+    Chain::at(b, STORE_HEAD).fold(STORE_HEAD, |_, record| {
+        RECORDS + RECORD_WORDS * (record.number as usize)
+    })
 }
 
 // A new store goes last.
@@ -108,8 +138,7 @@ pub fn holds_walk(b: &[u32], w: Walk) -> bool
     requires b_value { x.linked b.now ≡ true }
     ensures { result ≡ x.among w (x.walks b.now) }
 {
-    let start = b[WALK_HEAD];
-    check::walk_from(b, start, 32, w)
+    Chain::at(b, WALK_HEAD).any(|record| record.walk() == w)
 }
 
 // A new walk goes first; one already held is not added again.
@@ -136,6 +165,7 @@ fn goes(f: Flush, first: u32) -> bool
 }
 
 // The walks that match go to the free chain, one after the other.
+// A loop, and no `Chain`: the links change under it.
 pub fn drop_walks(b: &mut [u32], f: Flush)
     requires b_len { length b.old ≡ 256 }
     requires b_value { x.linked b.old ≡ true }
@@ -162,7 +192,7 @@ pub fn count_stores(b: &[u32]) -> usize
     requires b_value { x.linked b.now ≡ true }
     ensures { result ≡ length (x.stores b.now) }
 {
-    check::chain_length(b, STORE_HEAD)
+    Chain::at(b, STORE_HEAD).count()
 }
 
 // How many walks are held.
@@ -171,5 +201,5 @@ pub fn count_walks(b: &[u32]) -> usize
     requires b_value { x.linked b.now ≡ true }
     ensures { result ≡ length (x.walks b.now) }
 {
-    check::chain_length(b, WALK_HEAD)
+    Chain::at(b, WALK_HEAD).count()
 }

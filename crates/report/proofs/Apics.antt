@@ -1,6 +1,6 @@
 -- The local APIC of a block as the report's, and what each passive step of it does to both.
 -- Assumes nothing.
-use Rattle.std.specs.Prelude.{if◌then◌else◌}
+use Rattle.std.specs.Prelude.{if◌then◌else◌, Option, Some, None}
 use mathlib.Core.Path.{◌≡◌, refl, sym, ◌∙◌, ap, ap₂, subst}
 use mathlib.Core.Bool.{Bool, true, false}
 use mathlib.Core.List.{List}
@@ -16,8 +16,6 @@ use Rattle.word.specs.Bytes.{byte}
 use Rattle.word.proofs.Laws.{side}
 use Rattle.layout.specs.Layout as at
 use Rattle.tables.specs.Views.{port_byte, sipirr_of, initrr_of}
-use Rattle.vector_register.specs.declared.Found.{Found}
-use Rattle.vector_register.specs.declared.Found.TheVariants.{Vector, None}
 use Rattle.vector_register.specs.Vectors.{with_vector, least, lowest, marked, is_vector}
 use Rattle.vector_register.specs.Vectors as vectors
 use Rattle.apic.specs.LocalApic as local
@@ -80,8 +78,8 @@ pub least_same : (f g : ℕ → ℕ) (n u : ℕ) → ((k : ℕ) → k < u + n �
 unfolding least
 least_same f g zero u e = refl
 least_same f g (suc n) u e =
-    ap (λ (t : Bool). elim t as (λ _. Found) [ true ↦ Vector u | false ↦ least f n (u + 1) ]) (ap (λ (x : ℕ). eqb x 1) (e u (omega arith)))
-    ∙ ap (λ (r : Found). elim (eqb (g u) 1) as (λ _. Found) [ true ↦ Vector u | false ↦ r ]) (least_same f g n (u + 1) (λ k l. e k (omega arith)))
+    ap (λ (t : Bool). elim t as (λ _. Option ℕ) [ true ↦ Some u | false ↦ least f n (u + 1) ]) (ap (λ (x : ℕ). eqb x 1) (e u (omega arith)))
+    ∙ ap (λ (r : Option ℕ). elim (eqb (g u) 1) as (λ _. Option ℕ) [ true ↦ Some u | false ↦ r ]) (least_same f g n (u + 1) (λ k l. e k (omega arith)))
 
 module _ (a : Apic) (b : List ℕ) (S : SameApic a (apic_of b)) where
   pub bit_same_as : (r j : ℕ) → r % 4 ≡ 0 → r + 32 ≤ 128 → j < 256 → bit_at r a j ≡ vectors.bit_at b (72 + r / 4) j
@@ -170,24 +168,24 @@ module _ (a : Apic) (b : List ℕ) (S : SameApic a (apic_of b)) (long : length b
   pub jisr_same : SameApic (δapic a ΣApic.jisr) (apic_of (local.on_jisr b))
   unfolding δapic local.on_jisr
   jisr_same =
-      subst (λ (f : Found). SameApic (at_vector f (λ j. with_bit_at isr (with_bit_at irr a j 0) j 1) a) (apic_of (marked (marked b local.irr (lowest b local.irr) 0) local.isr (lowest b local.irr) 1)))
+      subst (λ (f : Option ℕ). SameApic (at_vector f (λ j. with_bit_at isr (with_bit_at irr a j 0) j 1) a) (apic_of (marked (marked b local.irr (lowest b local.irr) 0) local.isr (lowest b local.irr) 1)))
       (sym (min_lowest a b S irr refl (omega arith))) (go (lowest b local.irr) (least_vector (λ (k : ℕ). vectors.bit_at b local.irr k)))
     where
-      go : (f : Found) → is_vector f ≡ true → SameApic (at_vector f (λ j. with_bit_at isr (with_bit_at irr a j 0) j 1) a) (apic_of (marked (marked b local.irr f 0) local.isr f 1))
+      go : (f : Option ℕ) → is_vector f ≡ true → SameApic (at_vector f (λ j. with_bit_at isr (with_bit_at irr a j 0) j 1) a) (apic_of (marked (marked b local.irr f 0) local.isr f 1))
       go None h = S
-      go (Vector v) h =
+      go (Some v) h =
           let l = ltb-true v 256 h in
           put_bit (with_bit_at irr a v 0) (with_vector b local.irr v 0) (put_bit a b S long irr v 0 refl (omega arith) l (omega arith)) (vector_long b local.irr v 0 long) isr v 1 refl (omega arith) l (omega arith)
 
   pub rfe_same : SameApic (δapic a ΣApic.rfe) (apic_of (local.on_rfe b))
   unfolding δapic local.on_rfe
   rfe_same =
-      subst (λ (f : Found). SameApic (at_vector f (λ j. with_bit_at isr a j 0) a) (apic_of (marked b local.isr (lowest b local.isr) 0)))
+      subst (λ (f : Option ℕ). SameApic (at_vector f (λ j. with_bit_at isr a j 0) a) (apic_of (marked b local.isr (lowest b local.isr) 0)))
       (sym (min_lowest a b S isr refl (omega arith))) (go (lowest b local.isr) (least_vector (λ (k : ℕ). vectors.bit_at b local.isr k)))
     where
-      go : (f : Found) → is_vector f ≡ true → SameApic (at_vector f (λ j. with_bit_at isr a j 0) a) (apic_of (marked b local.isr f 0))
+      go : (f : Option ℕ) → is_vector f ≡ true → SameApic (at_vector f (λ j. with_bit_at isr a j 0) a) (apic_of (marked b local.isr f 0))
       go None h = S
-      go (Vector v) h = put_bit a b S long isr v 0 refl (omega arith) (ltb-true v 256 h) (omega arith)
+      go (Some v) h = put_bit a b S long isr v 0 refl (omega arith) (ltb-true v 256 h) (omega arith)
 
   -- a word at a port
   pub port_same : (p v : ℕ) → p < 128 → p % 4 ≡ 0 → SameApic (written a p v) (apic_of (set b (local.port_at p) v))
@@ -207,12 +205,12 @@ module _ (a : Apic) (b : List ℕ) (S : SameApic a (apic_of b)) (long : length b
   eoi_same : (v : ℕ) → SameApic (at_vector (min (bit_at isr a)) (ended (written a 12 v)) (written a 12 v)) (apic_of (local.eoi_written b v))
   unfolding local.eoi_written
   eoi_same v =
-      subst (λ (f : Found). SameApic (at_vector f (ended (written a 12 v)) (written a 12 v)) (apic_of (marked (marked (set b local.eoi v) local.isr (lowest b local.isr) 0) at.eoipending (lowest b local.isr) 1)))
+      subst (λ (f : Option ℕ). SameApic (at_vector f (ended (written a 12 v)) (written a 12 v)) (apic_of (marked (marked (set b local.eoi v) local.isr (lowest b local.isr) 0) at.eoipending (lowest b local.isr) 1)))
       (sym (min_lowest a b S isr refl (omega arith))) (go (lowest b local.isr) (least_vector (λ (k : ℕ). vectors.bit_at b local.isr k)))
     where
-      go : (f : Found) → is_vector f ≡ true → SameApic (at_vector f (ended (written a 12 v)) (written a 12 v)) (apic_of (marked (marked (set b local.eoi v) local.isr f 0) at.eoipending f 1))
+      go : (f : Option ℕ) → is_vector f ≡ true → SameApic (at_vector f (ended (written a 12 v)) (written a 12 v)) (apic_of (marked (marked (set b local.eoi v) local.isr f 0) at.eoipending f 1))
       go None h = port_same 12 v (omega arith) refl
-      go (Vector j) h =
+      go (Some j) h =
           let l = ltb-true j 256 h in
           let c : List ℕ = set b local.eoi v in
           let longer : length c ≡ 256 = length-set b local.eoi v ∙ long in

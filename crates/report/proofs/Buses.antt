@@ -1,6 +1,7 @@
 -- Demand 2 for apic-sendIPI and apic-sendEOI.
 -- Assumes nothing.
-use Rattle.std.specs.Prelude.{if◌then◌else◌}
+use Rattle.std.specs.Prelude.{if◌then◌else◌, Option, Some, None, Ok, Err}
+use Rattle.refusals.specs.declared.Refusal.TheVariants.{NoNextState}
 use mathlib.Core.Path.{◌≡◌, refl, sym, ◌∙◌, ap, subst}
 use mathlib.Core.Bool.{Bool, true, false, not, ◌&&◌, ◌||◌}
 use mathlib.Core.List.{List}
@@ -19,14 +20,11 @@ use Rattle.tables.specs.Sound.{sound}
 use Rattle.tables.proofs.Parts.{words_of}
 use Rattle.tables.proofs.Places.{words_facts}
 use Rattle.tables.proofs.Lift.{header, core_fits, core_long, core_sound}
-use Rattle.vector_register.specs.declared.Found.{Found}
-use Rattle.vector_register.specs.declared.Found.TheVariants.{Vector, None}
 use Rattle.apic.specs.declared.local.Kind.{Kind}
 use Rattle.apic.specs.declared.local.Kind.TheVariants as sort
 use Rattle.apic.specs.declared.active.Target.{Target}
 use Rattle.apic.specs.declared.active.Target.TheVariants.{Id, Own, All, AllButOwn}
 use Rattle.apic.specs.declared.active.Ipi.{Ipi}
-use Rattle.apic.specs.declared.active.Sending.TheVariants as sent
 use Rattle.vector_register.specs.Vectors.{is_vector}
 use Rattle.apic.specs.LocalApic.{id_of, received}
 use Rattle.apic.specs.Active.{ipi_of, sending, idle, aimed, received_by, pending_eoi, eoi_sent}
@@ -40,10 +38,11 @@ use Rattle.ioapic.specs.Bus.{send_ipi, send_eoi}
 use Rattle.ioapic.proofs.Blocks.{block_words, on_block_header}
 use Rattle.ioapic.proofs.Steps.{ipi_header, ipi_block, eoi_entry, eoi_block}
 use Rattle.steps.specs.declared.Step.{Step}
-use Rattle.steps.specs.declared.Step.TheVariants as kind
+use Rattle.steps.specs.declared.Step.TheVariants.{ByApic}
+use Rattle.steps.specs.declared.ApicStep.TheVariants as kind
 use Rattle.machine.specs.declared.action.Action.TheVariants as action
-use Rattle.machine.specs.Actions.{tables_after, memory_after}
-use Rattle.machine.specs.Decide.{to_send, to_end, by_step}
+use Rattle.machine.specs.Actions.{Acts, tables_after, memory_after}
+use Rattle.machine.specs.Decide.{to_send, to_end, by_apic, by_action, by_step}
 use Rattle.report.specs.Configuration.{Apic, Processor, Configuration, upd, with_p, with_apic, with_eoipending, with_ioapic}
 use Rattle.report.specs.Components.{bytes, ID, ICR, icr, with_bit_at, is_found, found, ΣApic, δapic, ΣIoApic, δioapic}
 use Rattle.report.specs.Delta as report
@@ -72,19 +71,19 @@ module _ (t m : List ℕ) (e : sound t (length m) ≡ true) (k : ℕ) (h : k < c
   all : length t ≡ 32 + 256 * n
   all = (header t (length m) e).long
 
-  abbrev x₁ : Step
-  x₁ = kind.SendEoi k
+  abbrev x₁ : Option Step
+  x₁ = Some (ByApic (kind.SendEoi k))
 
   -- by the vector found
   abbrev acked : (ℕ → ℕ) → ℕ → Configuration
   acked M v =
       with_ioapic (report.with_processor (view t m M) k (with_apic (processor_of b) (with_eoipending (apic_of b) (upd (apic_of b).eoipending v false)))) (δioapic (ioapic_of t) (ΣIoApic.eoi v))
 
-  outcome₁ : (M : ℕ → ℕ) (f : Found) → pending_eoi b ≡ f → δx t m x₁ M ≡ (if is_found f then report.next (acked M (found f)) report.done else report.none)
+  outcome₁ : (M : ℕ → ℕ) (f : Option ℕ) → pending_eoi b ≡ f → δx t m x₁ M ≡ (if is_found f then report.next (acked M (found f)) report.done else report.none)
   unfolding report.δBy report.send_EOI view processor_of
   outcome₁ M f q =
       ap (λ (y : Bool). if y then report.send_EOI (view t m M) k else report.none) (lt-ltb k n h)
-      ∙ ap (λ (g : Found). if is_found g then report.next (acked M (found g)) report.done else report.none) (min_eoi (apic_of b) b (apic_refl (apic_of b)) ∙ q)
+      ∙ ap (λ (g : Option ℕ). if is_found g then report.next (acked M (found g)) report.done else report.none) (min_eoi (apic_of b) b (apic_refl (apic_of b)) ∙ q)
 
   module _ (v : ℕ) (hv : v < 256) where
     abbrev u : List ℕ
@@ -115,7 +114,7 @@ module _ (t m : List ℕ) (e : sound t (length m) ≡ true) (k : ℕ) (h : k < c
         low_byte : (z : ℕ) → field 7 0 z ≡ vect z
         low_byte z = omega arith
 
-    eoi_same : (M : ℕ → ℕ) → Same (acked M v) (view (tables_after (action.SendEoi k v) t) (memory_after (action.SendEoi k v) m) M)
+    eoi_same : (M : ℕ → ℕ) → Same (acked M v) (view (tables_after (Acts (action.SendEoi k v)) t) (memory_after (Acts (action.SendEoi k v)) m) M)
     unfolding tables_after memory_after view
     eoi_same M =
         let P : Processor = with_apic (processor_of b) (with_eoipending (apic_of b) (upd (apic_of b).eoipending v false)) in
@@ -138,12 +137,12 @@ module _ (t m : List ℕ) (e : sound t (length m) ≡ true) (k : ℕ) (h : k < c
         go j false q = processor_refl (processor_of (block t j))
 
   pub eoi_case : Case t m x₁ (by_step t m x₁)
-  unfolding by_step misses
+  unfolding by_step by_apic misses
   eoi_case = go (pending_eoi b) refl (lowest_vector b at.eoipending refl)
     where
-      go : (f : Found) → pending_eoi b ≡ f → is_vector f ≡ true → Case t m x₁ (to_end k f)
-      go (Vector v) q i =
-          Case.done refl (adds_none t m _ refl) (λ M y. refl) (λ M. record { to = acked M v; is_next = outcome₁ M (Vector v) q; agrees = eoi_same v (ltb-true v 256 i) M })
+      go : (f : Option ℕ) → pending_eoi b ≡ f → is_vector f ≡ true → Case t m x₁ (by_action (to_end k f))
+      go (Some v) q i =
+          Case.done refl (adds_none t m _ refl) (λ M y. refl) (λ M. record { to = acked M v; is_next = outcome₁ M (Some v) q; agrees = eoi_same v (ltb-true v 256 i) M })
       go None q i = Case.undefined refl (is_a_step _ refl) (λ M. outcome₁ M None q)
 
 -- ---- ICR
@@ -237,8 +236,8 @@ module _ (t m : List ℕ) (e : sound t (length m) ≡ true) (ws : Words t) (k : 
   abbrev I : ℕ
   I = lo + 2 ^ 32 * hi
 
-  abbrev x₂ : Step
-  x₂ = kind.SendIpi k
+  abbrev x₂ : Option Step
+  x₂ = Some (ByApic (kind.SendIpi k))
 
   -- the report's terms, by ICR as z
   abbrev message_by : ℕ → ΣApic
@@ -355,7 +354,7 @@ module _ (t m : List ℕ) (e : sound t (length m) ≡ true) (ws : Words t) (k : 
         go true = (kept_idle (block t j)).same 67 (inl (omega arith))
         go false = refl
 
-    ipi_same : (M : ℕ → ℕ) → Same (ipi M I) (view (tables_after (action.SendIpi k mm) t) (memory_after (action.SendIpi k mm) m) M)
+    ipi_same : (M : ℕ → ℕ) → Same (ipi M I) (view (tables_after (Acts (action.SendIpi k mm)) t) (memory_after (Acts (action.SendIpi k mm)) m) M)
     unfolding tables_after memory_after view
     ipi_same M =
         let H = ipi_header (cores_of t) t all₂ k h mm hv in
@@ -364,15 +363,15 @@ module _ (t m : List ℕ) (e : sound t (length m) ≡ true) (ws : Words t) (k : 
         (λ j g. ap (λ (z : ℕ). is_set z j) (sym (H 3 (omega arith))))
         (io_kept t u₂ (λ x p q. H x (omega arith)))
 
-    sends : eqb (bit lo 12) 0 ≡ false → eqb (bit lo 11) 0 ≡ false → typed (lo / 2 ^ 8 % 8) ≡ true → Case t m x₂ (action.SendIpi k mm)
+    sends : eqb (bit lo 12) 0 ≡ false → eqb (bit lo 11) 0 ≡ false → typed (lo / 2 ^ 8 % 8) ≡ true → Case t m x₂ (Ok (Acts (action.SendIpi k mm)))
     unfolding misses
     sends f g r = Case.done refl (adds_none t m _ refl) (λ M y. refl) (λ M. record { to = ipi M I; is_next = by_tests M false false true f g r; agrees = ipi_same M })
 
   pub ipi_case : Case t m x₂ (by_step t m x₂)
-  unfolding by_step sending
+  unfolding by_step by_apic sending
   ipi_case = go (eqb (bit lo 12) 0) (eqb (bit lo 11) 0) (eqb (lo / 2 ^ 8 % 8) 0b000) (eqb (lo / 2 ^ 8 % 8) 0b101) (eqb (lo / 2 ^ 8 % 8) 0b110) refl refl refl refl refl
     where
-      stays : (p q r : Bool) → eqb (bit lo 12) 0 ≡ p → eqb (bit lo 11) 0 ≡ q → typed (lo / 2 ^ 8 % 8) ≡ r → (not p && not q && r) ≡ false → Case t m x₂ (action.Refused 6)
+      stays : (p q r : Bool) → eqb (bit lo 12) 0 ≡ p → eqb (bit lo 11) 0 ≡ q → typed (lo / 2 ^ 8 % 8) ≡ r → (not p && not q && r) ≡ false → Case t m x₂ (Err NoNextState)
       stays p q r f g s z =
           Case.undefined refl (is_a_step _ refl) (λ M. by_tests M p q r f g s ∙ ap (λ (y : Bool). if y then report.next (ipi M I) report.done else report.none) z)
 
@@ -386,7 +385,7 @@ module _ (t m : List ℕ) (e : sound t (length m) ≡ true) (ws : Words t) (k : 
           λ i. if x i then ΣApic.Fixed (z i) else if y i then ΣApic.INIT (z i) else ΣApic.SIPI (z i)
 
       go : (p q a c d : Bool) → eqb (bit lo 12) 0 ≡ p → eqb (bit lo 11) 0 ≡ q → eqb (lo / 2 ^ 8 % 8) 0b000 ≡ a → eqb (lo / 2 ^ 8 % 8) 0b101 ≡ c → eqb (lo / 2 ^ 8 % 8) 0b110 ≡ d →
-          Case t m x₂ (to_send k (if p then sent.Refused else if q then sent.Refused else if a then sent.Send (ipi_of sort.Fixed lo hi) else if c then sent.Send (ipi_of sort.Init lo hi) else if d then sent.Send (ipi_of sort.Startup lo hi) else sent.Refused))
+          Case t m x₂ (by_action (to_send k (if p then None else if q then None else if a then Some (ipi_of sort.Fixed lo hi) else if c then Some (ipi_of sort.Init lo hi) else if d then Some (ipi_of sort.Startup lo hi) else None)))
       go true q a c d f g x y z = stays true q (typed (lo / 2 ^ 8 % 8)) f g refl refl
       go false true a c d f g x y z = stays false true (typed (lo / 2 ^ 8 % 8)) f g refl refl
       go false false true c d f g x y z = sends sort.Fixed (says true c x y) f g (λ i. x i || y i || z i)

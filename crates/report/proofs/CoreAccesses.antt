@@ -1,6 +1,8 @@
 -- An access that takes effect: a load, a store, a cas.
 -- Assumes nothing.
-use Rattle.std.specs.Prelude.{if◌then◌else◌}
+use Rattle.std.specs.Prelude.{if◌then◌else◌, Option, Some, None, Result, Ok, Err}
+use Rattle.refusals.specs.declared.Refusal.{Refusal}
+use Rattle.refusals.specs.declared.Refusal.TheVariants.{ByteNowhere, StoresFull, NoFreeRecord}
 use mathlib.Core.Path.{◌≡◌, refl, sym, ◌∙◌, ap, subst}
 use mathlib.Core.Bool.{Bool, true, false, not, ◌&&◌, ◌||◌}
 use mathlib.Core.List.{List, [], ◌∷◌, ◌++◌}
@@ -26,8 +28,6 @@ use Rattle.records.specs.declared.Walk.{Walk}
 use Rattle.records.specs.Records.{among, walks, stores}
 use Rattle.records.specs.Contents.{local_port, io_port, all_there}
 use Rattle.tlb.specs.Walks.{walk_ba, hit, complete}
-use Rattle.store_buffer.specs.declared.Read.{Read}
-use Rattle.store_buffer.specs.declared.Read.TheVariants.{There, Nowhere}
 use Rattle.store_buffer.specs.Buffer.{sbhit, maxsbhit, sbhazard}
 use Rattle.store_buffer.specs.System as system
 use Rattle.store_buffer.specs.System.{memory_byte, reads, is_port, on_read, loaded, aligned}
@@ -43,7 +43,7 @@ use Rattle.cores.specs.declared.WalkChange.{WalkChange}
 use Rattle.cores.specs.declared.Write.{Write}
 use Rattle.cores.specs.declared.Write.TheVariants.{Memory}
 use Rattle.cores.specs.declared.Plan.{Plan}
-use Rattle.cores.specs.Plans.{refused, finished}
+use Rattle.cores.specs.Plans.{finished}
 use Rattle.cores.specs.declared.IoPorts.{IoPorts}
 use Rattle.cores.specs.Core.{View, io_ports_of, ports_beside, is_event, vector_of, suppressed, causes, physical, on_load, on_store, on_cas, stored_from, exchanged, performed, is_access, finds_buffer, avoids_ports, has_hazard, data_request_of}
 use Rattle.cores.specs.Commit.{written_to}
@@ -65,7 +65,7 @@ use Rattle.report.proofs.Rules.{store_not, does_same}
 use Rattle.report.proofs.CoreFacts as facts
 use Rattle.report.proofs.CoreRefusals.{K, guarded, allow, is_word, at_address}
 use Rattle.report.proofs.CoreNeeds as needs
-use Rattle.report.proofs.CoreNeeds.{None, HasR, has_fetched, idle₄, idle₅, idle₆}
+use Rattle.report.proofs.CoreNeeds.{HasR, has_fetched, idle₄, idle₅, idle₆}
 use Rattle.report.proofs.CoreEffects.{quiet, R'}
 use Rattle.report.proofs.CoreStops.{sb_still, memory_still, tlb_still, missed}
 use Rattle.report.proofs.CoreAddresses.{word_in, word_out, register_low, ea_low, physical_low}
@@ -98,10 +98,10 @@ none_left (s ∷ l) e = absurd (omega arith)
 below_ports : (y : ℕ) → y < 2 ^ 24 → (local_port y ≡ false) × (io_port y ≡ false)
 below_ports y h = (rw (lt-leb local_ports y (omega arith)) refl, rw (lt-leb io_ports y (omega arith)) refl)
 
-there_below : (m : List ℕ) (y n : ℕ) → memory_byte m y ≡ There n → y < length m
+there_below : (m : List ℕ) (y n : ℕ) → memory_byte m y ≡ Some n → y < length m
 there_below m y n = go (ltb y (length m)) refl
   where
-    go : (o : Bool) → ltb y (length m) ≡ o → (if o then There (get_or m y 0) else Nowhere) ≡ There n → y < length m
+    go : (o : Bool) → ltb y (length m) ≡ o → (if o then Some (get_or m y 0) else None) ≡ Some n → y < length m
     go true p e = ltb-true y (length m) p
     go false p e = never e
 
@@ -186,8 +186,8 @@ module _ (t m : List ℕ) (e : sound t (length m) ≡ true) (low : Words t) (i :
     room = omega (arith, in_word.within, low_address)
 
     -- a load or cas has read what is there
-    module _ (reads-it : (load x || cas x) ≡ true) (r : ℕ → Read) (z : ℕ) (value : reads (d x) r a ≡ There z)
-        (seen : (M : ℕ → ℕ) (y n : ℕ) → r y ≡ There n → ms (ioapic_of t) (apic_of b) (stores b) (memory_of m M) y ≡ n) where
+    module _ (reads-it : (load x || cas x) ≡ true) (r : ℕ → Option ℕ) (z : ℕ) (value : reads (d x) r a ≡ Some z)
+        (seen : (M : ℕ → ℕ) (y n : ℕ) → r y ≡ Some n → ms (ioapic_of t) (apic_of b) (stores b) (memory_of m M) y ≡ n) where
       RAt : (ℕ → ℕ) → Bool → Bool → ℕ → ℕ → ℕ
       RAt M f g n y = if f || g then 0 else bytes (d (decoded n)) (ms (ioapic_of t) (apic_of b) (stores b) (memory_of m M)) y
 
@@ -206,18 +206,18 @@ module _ (t m : List ℕ) (e : sound t (length m) ≡ true) (low : Words t) (i :
     -- ---- a load
 
     module _ (ld : load x ≡ true) where
-      abbrev seen : ℕ → Read
+      abbrev seen : ℕ → Option ℕ
       seen = system.ms v.sb (ports_beside v io) m
 
       no_hazard : sbhazard v.sb a (d x) ≡ false
       no_hazard = sym (ap (λ (y : Bool). y && sbhazard v.sb a (d x)) ld) ∙ A.safe
 
-      load_is : (r : Read) → reads (d x) seen a ≡ r → performed v io m x w ca a ≡ on_load v x w ca (on_read (maxsbhit v.sb a) r)
+      load_is : (r : Option ℕ) → reads (d x) seen a ≡ r → performed v io m x w ca a ≡ on_load v x w ca (on_read (maxsbhit v.sb a) r)
       unfolding performed loaded
       load_is r p = rw (ld, no_hazard, p) refl
 
-      load_done : (z : ℕ) → reads (d x) seen a ≡ There z → MayBeDone (length m) b (finished x w z ca k BufferChange.Nothing WalkChange.Nothing Write.Nothing) →
-          K t m i h w_i w_r (finished x w z ca k BufferChange.Nothing WalkChange.Nothing Write.Nothing)
+      load_done : (z : ℕ) → reads (d x) seen a ≡ Some z → MayBeDone (length m) b (Ok (finished x w z ca k BufferChange.Nothing WalkChange.Nothing Write.Nothing)) →
+          K t m i h w_i w_r (Ok (finished x w z ca k BufferChange.Nothing WalkChange.Nothing Write.Nothing))
       unfolding written_to
       load_done z p D =
           finish t m e low i h w_i w_r w F false none_faults A.runs z (read_as (ap (λ (y : Bool). y || cas x) ld) seen z p (λ M y n. seen_byte b t m v.sb y M n)) BufferChange.Nothing WalkChange.Nothing Write.Nothing D refl
@@ -231,7 +231,7 @@ module _ (t m : List ℕ) (e : sound t (length m) ≡ true) (low : Words t) (i :
           seen_there b t m v.sb y o.0 (ap seen (sym q) ∙ o.1)))
           (λ y. idle₅ (c M) i w_i w_r (length m) y (does_not M store ((one_kind x).0 ld))) (λ y. idle₆ (c M) i w_i w_r (length m) y (does_not M cas ((one_kind x).1 ld))))
 
-      load_misses : reads (d x) seen a ≡ Nowhere → K t m i h w_i w_r (refused 7)
+      load_misses : reads (d x) seen a ≡ None → K t m i h w_i w_r (Err ByteNowhere)
       load_misses p =
           let o = reads_missing seen (d x) a room p in
           let n = unseen_byte b t m v.sb (a + o.0) o.2 in
@@ -241,9 +241,9 @@ module _ (t m : List ℕ) (e : sound t (length m) ≡ true) (low : Words t) (i :
       pub loads : MayBeDone (length m) b (performed v io m x w ca a) → K t m i h w_i w_r (performed v io m x w ca a)
       loads = go (reads (d x) seen a) refl
         where
-          go : (r : Read) → reads (d x) seen a ≡ r → MayBeDone (length m) b (performed v io m x w ca a) → K t m i h w_i w_r (performed v io m x w ca a)
-          go (There z) p = subst (λ (y : Plan). MayBeDone (length m) b y → K t m i h w_i w_r y) (sym (load_is (There z) p)) (load_done z p)
-          go Nowhere p = subst (λ (y : Plan). MayBeDone (length m) b y → K t m i h w_i w_r y) (sym (load_is Nowhere p)) (λ D. load_misses p)
+          go : (r : Option ℕ) → reads (d x) seen a ≡ r → MayBeDone (length m) b (performed v io m x w ca a) → K t m i h w_i w_r (performed v io m x w ca a)
+          go (Some z) p = subst (λ (y : Result Plan Refusal). MayBeDone (length m) b y → K t m i h w_i w_r y) (sym (load_is (Some z) p)) (load_done z p)
+          go None p = subst (λ (y : Result Plan Refusal). MayBeDone (length m) b y → K t m i h w_i w_r y) (sym (load_is None p)) (λ D. load_misses p)
 
     -- ---- a store
 
@@ -267,19 +267,19 @@ module _ (t m : List ℕ) (e : sound t (length m) ≡ true) (low : Words t) (i :
       no_cas : cas x ≡ false
       no_cas = (one_kind x).2 st
 
-      store_has : all_there (d x) (length m) a ≡ true → (M : ℕ → ℕ) → None t m i h w_i w_r M
+      store_has : all_there (d x) (length m) a ≡ true → (M : ℕ → ℕ) → needs.None t m i h w_i w_r M
       store_has p M =
           has_fetched t m i h w_i w_r M w (F.fetched M) F.entry F.within (λ y. A.entry) (λ y. idle₄ (c M) i w_i w_r (length m) y (does_not M load no-load))
           (needs.stored t m i h w_i w_r M w (F.fetched M) p) (λ y. idle₆ (c M) i w_i w_r (length m) y (does_not M cas no_cas))
 
-      store_done : all_there (d x) (length m) a ≡ true → MayBeDone (length m) b (finished x w 0 ca k (Put new) WalkChange.Nothing Write.Nothing) →
-          K t m i h w_i w_r (finished x w 0 ca k (Put new) WalkChange.Nothing Write.Nothing)
+      store_done : all_there (d x) (length m) a ≡ true → MayBeDone (length m) b (Ok (finished x w 0 ca k (Put new) WalkChange.Nothing Write.Nothing)) →
+          K t m i h w_i w_r (Ok (finished x w 0 ca k (Put new) WalkChange.Nothing Write.Nothing))
       unfolding written_to
       store_done p D =
           finish t m e low i h w_i w_r w F false none_faults A.runs 0 (nothing_read t m e low i h w_i w_r w F no-load no_cas) (Put new) WalkChange.Nothing Write.Nothing D refl puts tlb_kept
           (λ M y l. memory_still t m i h w_i w_r M (does_not M cas no_cas) y) guards_hold (store_has p)
 
-      store_misses : all_there (d x) (length m) a ≡ false → K t m i h w_i w_r (refused 7)
+      store_misses : all_there (d x) (length m) a ≡ false → K t m i h w_i w_r (Err ByteNowhere)
       store_misses p =
           let o = one_missing (d x) (length m) a p in
           missed t m i h w_i w_r o.0 (λ M. needs.misses_store t m i h w_i w_r M w (F.fetched M) o.0 (does_as M store ∙ st) o.1 o.2 o.3) (guards_hold nothing)
@@ -290,7 +290,7 @@ module _ (t m : List ℕ) (e : sound t (length m) ≡ true) (low : Words t) (i :
       good : sound_block (length m) b ≡ true
       good = core_sound t (length m) e i h
 
-      store_full : all_there (d x) (length m) a ≡ true → leb 8 (length v.sb) ≡ true → K t m i h w_i w_r (refused 8)
+      store_full : all_there (d x) (length m) a ≡ true → leb 8 (length v.sb) ≡ true → K t m i h w_i w_r (Err StoresFull)
       unfolding misses view processor_of
       store_full p l =
           Case.no_store refl (store_has p) (λ M. allow t m i h w_i w_r M (guards_hold M))
@@ -300,11 +300,11 @@ module _ (t m : List ℕ) (e : sound t (length m) ≡ true) (low : Words t) (i :
       is_free l = free_there b long (block_linked (length m) b good) (omega (arith, leb-false 8 (length (stores b)) l, block_few_walks (length m) b good long))
 
       pub stored : MayBeDone (length m) b (performed v io m x w ca a) → K t m i h w_i w_r (performed v io m x w ca a)
-      stored = subst (λ (y : Plan). MayBeDone (length m) b y → K t m i h w_i w_r y) (sym store_is) (go (all_there (d x) (length m) a) refl (leb 8 (length v.sb)) refl v.free refl)
+      stored = subst (λ (y : Result Plan Refusal). MayBeDone (length m) b y → K t m i h w_i w_r y) (sym store_is) (go (all_there (d x) (length m) a) refl (leb 8 (length v.sb)) refl v.free refl)
         where
           go : (o : Bool) → all_there (d x) (length m) a ≡ o → (l : Bool) → leb 8 (length v.sb) ≡ l → (f : Bool) → v.free ≡ f →
-              MayBeDone (length m) b (if not o then refused 7 else if l then refused 8 else if not f then refused 10 else finished x w 0 ca k (Put new) WalkChange.Nothing Write.Nothing) →
-              K t m i h w_i w_r (if not o then refused 7 else if l then refused 8 else if not f then refused 10 else finished x w 0 ca k (Put new) WalkChange.Nothing Write.Nothing)
+              MayBeDone (length m) b (if not o then Err ByteNowhere else if l then Err StoresFull else if not f then Err NoFreeRecord else Ok (finished x w 0 ca k (Put new) WalkChange.Nothing Write.Nothing)) →
+              K t m i h w_i w_r (if not o then Err ByteNowhere else if l then Err StoresFull else if not f then Err NoFreeRecord else Ok (finished x w 0 ca k (Put new) WalkChange.Nothing Write.Nothing))
           go false p l q f r D = store_misses p
           go true p true q f r D = store_full p q
           go true p false q true r D = store_done p D
@@ -319,7 +319,7 @@ module _ (t m : List ℕ) (e : sound t (length m) ≡ true) (low : Words t) (i :
       wide : d x ≡ 4
       wide = cas_width x A.acc no-load no_store
 
-      cas_is : (r : Read) → reads 4 (memory_byte m) a ≡ r → performed v io m x w ca a ≡ on_cas v x w ca a r
+      cas_is : (r : Option ℕ) → reads 4 (memory_byte m) a ≡ r → performed v io m x w ca a ≡ on_cas v x w ca a r
       unfolding performed
       cas_is r p = rw (no-load, no_store, p) refl
 
@@ -334,18 +334,18 @@ module _ (t m : List ℕ) (e : sound t (length m) ≡ true) (low : Words t) (i :
       empty = none_left (stores b) (eqb-true (length (stores b)) 0 (sym (ap (λ (y : Bool). not (y || mfence x) || eqb (length (stores b)) 0) is_cas) ∙ A.finds))
 
       -- memory ends before the ports
-      cas_sees : (M : ℕ → ℕ) (y n : ℕ) → memory_byte m y ≡ There n → ms (ioapic_of t) (apic_of b) (stores b) (memory_of m M) y ≡ n
+      cas_sees : (M : ℕ → ℕ) (y n : ℕ) → memory_byte m y ≡ Some n → ms (ioapic_of t) (apic_of b) (stores b) (memory_of m M) y ≡ n
       unfolding ms sbhit
       cas_sees M y n p =
           ap (λ (l : List Store). ms (ioapic_of t) (apic_of b) l (memory_of m M) y) empty ∙ rw ((below_ports y (small y n p)).0, (below_ports y (small y n p)).1) (memory_byte_lem m M y n p)
         where
-          small : (y n : ℕ) → memory_byte m y ≡ There n → y < 2 ^ 24
+          small : (y n : ℕ) → memory_byte m y ≡ Some n → y < 2 ^ 24
           small y n p = omega (arith, there_below m y n p, (header t (length m) e).bytes, (header t (length m) e).few_pages)
 
       swapped : ℕ → Write
       swapped z = exchanged v.core w z a
 
-      module _ (z : ℕ) (p : reads 4 (memory_byte m) a ≡ There z) where
+      module _ (z : ℕ) (p : reads 4 (memory_byte m) a ≡ Some z) where
         within : a + 4 ≤ length m
         within = word_in m (whole_words t (length m) e) a four low_address z p
 
@@ -382,8 +382,8 @@ module _ (t m : List ℕ) (e : sound t (length m) ≡ true) (low : Words t) (i :
             go true = refl
             go false = refl
 
-        cas_done : MayBeDone (length m) b (finished x w z ca k BufferChange.Nothing WalkChange.Nothing (swapped z)) →
-            K t m i h w_i w_r (finished x w z ca k BufferChange.Nothing WalkChange.Nothing (swapped z))
+        cas_done : MayBeDone (length m) b (Ok (finished x w z ca k BufferChange.Nothing WalkChange.Nothing (swapped z))) →
+            K t m i h w_i w_r (Ok (finished x w z ca k BufferChange.Nothing WalkChange.Nothing (swapped z)))
         cas_done D =
             finish t m e low i h w_i w_r w F false none_faults A.runs z
             (read_as (ap (λ (y : Bool). load x || y) is_cas ∙ or_true (load x)) (memory_byte m) z (ap (λ (n : ℕ). reads n (memory_byte m) a) wide ∙ p) cas_sees)
@@ -392,7 +392,7 @@ module _ (t m : List ℕ) (e : sound t (length m) ≡ true) (low : Words t) (i :
             has_fetched t m i h w_i w_r M w (F.fetched M) F.entry F.within (λ y. A.entry) (λ y. idle₄ (c M) i w_i w_r (length m) y (does_not M load no-load))
             (λ y. idle₅ (c M) i w_i w_r (length m) y (does_not M store no_store)) (needs.swaps t m i h w_i w_r M w (F.fetched M) within))
 
-      cas_misses : reads 4 (memory_byte m) a ≡ Nowhere → K t m i h w_i w_r (refused 7)
+      cas_misses : reads 4 (memory_byte m) a ≡ None → K t m i h w_i w_r (Err ByteNowhere)
       cas_misses p =
           missed t m i h w_i w_r a
           (λ M. needs.misses_swap t m i h w_i w_r M w (F.fetched M) a (does_as M cas ∙ is_cas) (omega arith) (omega arith) (word_out m (whole_words t (length m) e) a four low_address p)) (guards_hold nothing)
@@ -401,6 +401,6 @@ module _ (t m : List ℕ) (e : sound t (length m) ≡ true) (low : Words t) (i :
       unfolding swapped
       exchanges = go (reads 4 (memory_byte m) a) refl
         where
-          go : (r : Read) → reads 4 (memory_byte m) a ≡ r → MayBeDone (length m) b (performed v io m x w ca a) → K t m i h w_i w_r (performed v io m x w ca a)
-          go (There z) p = subst (λ (y : Plan). MayBeDone (length m) b y → K t m i h w_i w_r y) (sym (cas_is (There z) p)) (cas_done z p)
-          go Nowhere p = subst (λ (y : Plan). MayBeDone (length m) b y → K t m i h w_i w_r y) (sym (cas_is Nowhere p)) (λ D. cas_misses p)
+          go : (r : Option ℕ) → reads 4 (memory_byte m) a ≡ r → MayBeDone (length m) b (performed v io m x w ca a) → K t m i h w_i w_r (performed v io m x w ca a)
+          go (Some z) p = subst (λ (y : Result Plan Refusal). MayBeDone (length m) b y → K t m i h w_i w_r y) (sym (cas_is (Some z) p)) (cas_done z p)
+          go None p = subst (λ (y : Result Plan Refusal). MayBeDone (length m) b y → K t m i h w_i w_r y) (sym (cas_is None p)) (λ D. cas_misses p)

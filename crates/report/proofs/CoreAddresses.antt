@@ -1,6 +1,6 @@
 -- The addresses that a core's step uses have 32 bits, and the word 0 is an instruction that asks for nothing.
 -- Assumes nothing.
-use Rattle.std.specs.Prelude.{if◌then◌else◌}
+use Rattle.std.specs.Prelude.{if◌then◌else◌, Some, None}
 use mathlib.Core.Path.{◌≡◌, refl, sym, ◌∙◌}
 use mathlib.Core.Logic.{⊎_elim}
 use mathlib.Core.Bool.{Bool, true, false, not, ◌&&◌, ◌||◌}
@@ -23,7 +23,6 @@ use Rattle.isa.specs.Interrupts.{user}
 use Rattle.records.specs.declared.Walk.{Walk}
 use Rattle.records.specs.Records.{among}
 use Rattle.tlb.specs.Walks.{walk_ba}
-use Rattle.store_buffer.specs.declared.Read.TheVariants.{There, Nowhere}
 use Rattle.store_buffer.specs.System.{memory_byte, reads}
 use Rattle.store_buffer.proofs.Access.{never, reads_each, memory_there}
 use Rattle.tables.specs.Views.{cores_of}
@@ -38,14 +37,14 @@ use Rattle.report.proofs.CoreFacts as facts
 
 -- a word at a multiple of four is in memory, or all of it is not
 module _ (m : List ℕ) (whole : length m % 4 ≡ 0) (a : ℕ) (four : a % 4 ≡ 0) (low : a < 2 ^ 32) where
-  pub word_in : (v : ℕ) → reads 4 (memory_byte m) a ≡ There v → a + 4 ≤ length m
+  pub word_in : (v : ℕ) → reads 4 (memory_byte m) a ≡ Some v → a + 4 ≤ length m
   word_in v e = let r = reads_each (memory_byte m) 4 a v (omega arith) e 3 (omega arith) in go (ltb (a + 3) (length m)) refl r.0 r.1
     where
-      go : (t : Bool) → ltb (a + 3) (length m) ≡ t → (x : ℕ) → (if t then There (get_or m (a + 3) 0) else Nowhere) ≡ There x → a + 4 ≤ length m
+      go : (t : Bool) → ltb (a + 3) (length m) ≡ t → (x : ℕ) → (if t then Some (get_or m (a + 3) 0) else None) ≡ Some x → a + 4 ≤ length m
       go true p x k = omega (arith, ltb-true (a + 3) (length m) p)
       go false p x k = never k
 
-  pub word_out : reads 4 (memory_byte m) a ≡ Nowhere → length m ≤ a
+  pub word_out : reads 4 (memory_byte m) a ≡ None → length m ≤ a
   word_out e =
       ⊎_elim (λ (l : a + 3 < length m). never (sym e ∙ memory_there m a 4 (omega arith) (omega arith))) (λ (l : length m ≤ a + 3). omega arith) (side (a + 3) (length m))
 

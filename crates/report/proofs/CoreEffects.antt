@@ -1,6 +1,6 @@
 -- What a core's step that is accepted changes: the report's next configuration is the one after the plan.
 -- Assumes nothing.
-use Rattle.std.specs.Prelude.{if◌then◌else◌}
+use Rattle.std.specs.Prelude.{if◌then◌else◌, Some}
 use mathlib.Core.Path.{◌≡◌, refl, sym, ◌∙◌, ap, subst}
 use mathlib.Core.Bool.{Bool, true, false, not, ◌&&◌, ◌||◌}
 use mathlib.Core.List.{List}
@@ -23,7 +23,8 @@ use Rattle.tables.specs.Views.{cores_of, registers_of}
 use Rattle.tables.specs.Sound.{sound}
 use Rattle.tables.proofs.Lift.{core_long, core_sound}
 use Rattle.apic.specs.LocalApic.{event}
-use Rattle.steps.specs.declared.Step.TheVariants.{Core}
+use Rattle.steps.specs.declared.Step.TheVariants.{ByProcessor}
+use Rattle.steps.specs.declared.ProcessorStep.TheVariants.{Core}
 use Rattle.steps.specs.declared.Answer.TheVariants.{Done}
 use Rattle.cores.specs.declared.CoreChange.TheVariants.{Return, Execute}
 use Rattle.cores.specs.declared.BufferChange.{BufferChange}
@@ -36,7 +37,7 @@ use Rattle.cores.specs.Core.{View, is_event, vector_of, suppressed, stopped, cau
 use Rattle.cores.specs.Commit.{tables_by_plan, memory_by_plan, written_to, block_after}
 use Rattle.cores.proofs.Accesses.{all_b, bools}
 use Rattle.cores.proofs.Sounds.{registers_after, stores_after, tlb_after}
-use Rattle.cores.proofs.Decisions.{MayBeDone}
+use Rattle.cores.proofs.Decisions.{PlanMayBeDone}
 use Rattle.cores.proofs.Locals.{is_io}
 use Rattle.report.specs.Configuration.{Apic, Configuration}
 use Rattle.report.specs.Components.{eev, min, found, ΣApic, δapic}
@@ -166,7 +167,7 @@ module _ (t m : List ℕ) (i : ℕ) (h : i < cores_of t) (w_i w_r : Walk) where
     pub apic : report.apic' (c M) i w_i w_r ovf_of ≡ apic_core p.core (apic_of b)
     pub memory : (y : ℕ) → y < 2 ^ 32 → report.m' (c M) i w_i w_r ovf_of y ≡ memory_of (memory_by_plan p m) M y
 
-  module _ (e : sound t (length m) ≡ true) (p : Plan) (D : MayBeDone (length m) b p) (q : quiet p.write ≡ true) where
+  module _ (e : sound t (length m) ≡ true) (p : Plan) (D : PlanMayBeDone (length m) b p) (q : quiet p.write ≡ true) where
     processor : (M : ℕ → ℕ) (r : report.Answer) → Lands M p r →
         SameProcessor (record { core = report.core' (c M) i w_i w_r ovf_of; sb = report.sb' (c M) i w_i w_r ovf_of; tlb = report.tlb' (c M) i w_i w_r ovf_of; apic = report.apic' (c M) i w_i w_r ovf_of }) (processor_of (block_after p b))
     processor M r L =
@@ -178,7 +179,7 @@ module _ (t m : List ℕ) (i : ℕ) (h : i < cores_of t) (w_i w_r : Walk) where
           apic = subst (λ (a : Apic). SameApic a (processor_of (block_after p b)).apic) (quiet_apic p.write (apic_core p.core (apic_of b)) q ∙ sym L.apic) S.apic;
         }
 
-    pub lead : (M : ℕ → ℕ) (r : report.Answer) → guarded t m i h w_i w_r M ≡ true → Lands M p r → Next (δx t m (Core i w_i w_r) M) r (view (tables_by_plan i p t) (memory_by_plan p m) M)
+    pub lead : (M : ℕ → ℕ) (r : report.Answer) → guarded t m i h w_i w_r M ≡ true → Lands M p r → Next (δx t m (Some (ByProcessor i (Core w_i w_r))) M) r (view (tables_by_plan i p t) (memory_by_plan p m) M)
     unfolding view
     lead M r g L =
         record {

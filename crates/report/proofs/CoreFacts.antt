@@ -1,6 +1,7 @@
--- What the report's core step consults, on the configuration of tables and memory: whatever is beyond memory, as the machine finds it.
+-- What the report's core step consults, on the configuration of tables and memory: whatever is beyond memory, as the
+-- machine finds it.
 -- Assumes nothing.
-use Rattle.std.specs.Prelude.{if◌then◌else◌}
+use Rattle.std.specs.Prelude.{if◌then◌else◌, Option, Some, None}
 use mathlib.Core.Path.{◌≡◌, refl, sym, ◌∙◌, ap}
 use mathlib.Core.Bool.{Bool, true, false, not, ◌&&◌, ◌||◌}
 use mathlib.Core.List.{List}
@@ -21,13 +22,12 @@ use Rattle.tlb.specs.declared.Faulting.{Faulting}
 use Rattle.tlb.specs.declared.Faulting.TheVariants.{Faults, Passes, Undecided}
 use Rattle.tlb.specs.Walks as tlb
 use Rattle.tables.specs.Views.{cores_of}
-use Rattle.vector_register.specs.declared.Found.{Found}
-use Rattle.vector_register.specs.declared.Found.TheVariants.{Vector, None}
 use Rattle.vector_register.specs.Vectors as vectors
 use Rattle.apic.specs.LocalApic as local
 use Rattle.vector_register.specs.Vectors.{some_up_to}
 use Rattle.apic.specs.LocalApic.{event}
-use Rattle.steps.specs.declared.Step.TheVariants.{Core}
+use Rattle.steps.specs.declared.Step.TheVariants.{ByProcessor}
+use Rattle.steps.specs.declared.ProcessorStep.TheVariants.{Core}
 use Rattle.cores.specs.Core.{View, view_of, is_event, vector_of, causes, causes_without, suppressed, physical, is_access, data_request_of, fetch_request_of}
 use Rattle.report.specs.Configuration.{Configuration}
 use Rattle.report.specs.Components.{bytes, fault, bit_at, isr, irr, eev, min, is_found, found}
@@ -87,16 +87,16 @@ event_same b =
 event_is : (b : List ℕ) → is_found (min (eev (apic_of b))) ≡ is_event (event b)
 event_is b = ap is_found (event_same b) ∙ go (event b)
   where
-    go : (f : Found) → is_found f ≡ is_event f
+    go : (f : Option ℕ) → is_found f ≡ is_event f
     go None = refl
-    go (Vector k) = refl
+    go (Some k) = refl
 
 pub vector_is : (b : List ℕ) → found (min (eev (apic_of b))) ≡ vector_of (event b)
 vector_is b = ap found (event_same b) ∙ go (event b)
   where
-    go : (f : Found) → found f ≡ vector_of f
+    go : (f : Option ℕ) → found f ≡ vector_of f
     go None = refl
-    go (Vector k) = refl
+    go (Some k) = refl
 
 -- ---- the report's names
 
@@ -133,7 +133,7 @@ module _ (t m : List ℕ) (i : ℕ) (w_i w_r : Walk) where
     unfolding report.I report.pma_i view processor_of
     word_is = refl
 
-    pub δ_is : i < cores_of t → report.δBy ovf_of c (Core i w_i w_r) ≡ report.core_step c i w_i w_r ovf_of
+    pub δ_is : i < cores_of t → report.δBy ovf_of c (Some (ByProcessor i (Core w_i w_r))) ≡ report.core_step c i w_i w_r ovf_of
     unfolding report.δBy view
     δ_is h = rw (lt-ltb i (cores_of t) h)
 

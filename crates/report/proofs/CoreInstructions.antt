@@ -1,6 +1,8 @@
--- A core's step that fetches an instruction: one without an access, an access that is refused, faults or is stopped, and the frame of what takes effect.
+-- A core's step that fetches an instruction: one without an access, an access that is refused, faults or is stopped,
+-- and the frame of what takes effect.
 -- Assumes nothing.
-use Rattle.std.specs.Prelude.{if◌then◌else◌}
+use Rattle.std.specs.Prelude.{if◌then◌else◌, Ok, Err}
+use Rattle.refusals.specs.declared.Refusal.TheVariants.{NoNextState, ByteNowhere}
 use mathlib.Core.Path.{◌≡◌, refl, sym, ◌∙◌, ap}
 use mathlib.Core.Bool.{Bool, true, false, not, ◌&&◌, ◌||◌}
 use mathlib.Core.List.{List}
@@ -29,7 +31,7 @@ use Rattle.cores.specs.declared.BufferChange.{BufferChange}
 use Rattle.cores.specs.declared.WalkChange.{WalkChange}
 use Rattle.cores.specs.declared.WalkChange.TheVariants.{Drop}
 use Rattle.cores.specs.declared.Write.{Write}
-use Rattle.cores.specs.Plans.{refused, interrupted, changed, finished}
+use Rattle.cores.specs.Plans.{interrupted, changed, finished}
 use Rattle.cores.specs.Core.{View, vector_of, suppressed, stopped, causes, faulted, physical, plain, dropped_by, is_access, finds_buffer, avoids_ports, has_hazard, data_request_of}
 use Rattle.cores.specs.Commit.{written_to}
 use Rattle.cores.proofs.Decisions.{MayBeDone}
@@ -87,7 +89,7 @@ module _ (t m : List ℕ) (e : sound t (length m) ≡ true) (low : Words t) (i :
     abbrev EA : ℕ
     EA = ea x v.core w
 
-    pub waits : finds_buffer v.sb x ≡ false → K t m i h w_i w_r (refused 6)
+    pub waits : finds_buffer v.sb x ≡ false → K t m i h w_i w_r (Err NoNextState)
     waits f = refuse t m i h w_i w_r (λ M. guards.stops_buffer t m i h w_i w_r M w (F.fetched M) f)
 
     pub no_pff' : (M : ℕ → ℕ) → report.pff (c M) i w_i w_r ≡ false
@@ -113,8 +115,8 @@ module _ (t m : List ℕ) (e : sound t (length m) ≡ true) (low : Words t) (i :
         none : (M : ℕ → ℕ) (p : Instruction → Bool) → report.does (c M) i w_i w_r ovf_of p ≡ false
         none M p = does_is M p ∙ (ap (λ (y : Bool). p x && not y) s ∙ and_false (p x))
 
-        stops : (ws : WalkChange) → MayBeDone (length m) b (stopped v w ca ws) → (is_access x ≡ true → HasR t m i h w_i w_r w) → ((M : ℕ → ℕ) → guarded t m i h w_i w_r M ≡ true) →
-            ((M : ℕ → ℕ) (y : Walk) → report.tlb' (c M) i w_i w_r ovf_of y ≡ among y (tlb_after ws (walks b))) → K t m i h w_i w_r (stopped v w ca ws)
+        stops : (ws : WalkChange) → MayBeDone (length m) b (Ok (stopped v w ca ws)) → (is_access x ≡ true → HasR t m i h w_i w_r w) → ((M : ℕ → ℕ) → guarded t m i h w_i w_r M ≡ true) →
+            ((M : ℕ → ℕ) (y : Walk) → report.tlb' (c M) i w_i w_r ovf_of y ≡ among y (tlb_after ws (walks b))) → K t m i h w_i w_r (Ok (stopped v w ca ws))
         stops ws D l g z =
             halts t m i h w_i w_r e w ca ws D g
             (λ M. has_fetched t m i h w_i w_r M w (F.fetched M) F.entry F.within l (λ y. idle₄ (c M) i w_i w_r (length m) y (none M load)) (λ y. idle₅ (c M) i w_i w_r (length m) y (none M store)) (λ y. idle₆ (c M) i w_i w_r (length m) y (none M cas)))
@@ -125,15 +127,15 @@ module _ (t m : List ℕ) (e : sound t (length m) ≡ true) (low : Words t) (i :
 
       -- one that does not, or none
       module _ (s : suppressed ca ≡ false) (R : ℕ) (is-R : (M : ℕ → ℕ) → R' t m i h w_i w_r M ≡ R) (bf : BufferChange) (ws : WalkChange) (wr : Write)
-          (D : MayBeDone (length m) b (finished x w R ca k bf ws wr)) (q : quiet wr ≡ true)
+          (D : MayBeDone (length m) b (Ok (finished x w R ca k bf ws wr))) (q : quiet wr ≡ true)
           (sb : (M : ℕ → ℕ) → report.sb' (c M) i w_i w_r ovf_of ≡ stores_after bf (stores b)) (tlb : (M : ℕ → ℕ) (y : Walk) → report.tlb' (c M) i w_i w_r ovf_of y ≡ among y (tlb_after ws (walks b)))
           (mem : (M : ℕ → ℕ) (y : ℕ) → y < 2 ^ 32 → report.m' (c M) i w_i w_r ovf_of y ≡ memory_of (written_to wr m) M y) where
-        pub finish : ((M : ℕ → ℕ) → guarded t m i h w_i w_r M ≡ true) → ((M : ℕ → ℕ) → None t m i h w_i w_r M) → K t m i h w_i w_r (finished x w R ca k bf ws wr)
+        pub finish : ((M : ℕ → ℕ) → guarded t m i h w_i w_r M ≡ true) → ((M : ℕ → ℕ) → None t m i h w_i w_r M) → K t m i h w_i w_r (Ok (finished x w R ca k bf ws wr))
         unfolding finished
         finish g n = go (jisr ca) refl D
           where
-            go : (j : Bool) → jisr ca ≡ j → MayBeDone (length m) b (if j then interrupted w R ca k bf ws wr else record { answer = Done; core = changed x w R; buffer = bf; walks = ws; write = wr }) →
-                K t m i h w_i w_r (if j then interrupted w R ca k bf ws wr else record { answer = Done; core = changed x w R; buffer = bf; walks = ws; write = wr })
+            go : (j : Bool) → jisr ca ≡ j → MayBeDone (length m) b (Ok (if j then interrupted w R ca k bf ws wr else record { answer = Done; core = changed x w R; buffer = bf; walks = ws; write = wr })) →
+                K t m i h w_i w_r (Ok (if j then interrupted w R ca k bf ws wr else record { answer = Done; core = changed x w R; buffer = bf; walks = ws; write = wr }))
             go true p D =
                 interrupts t m i h w_i w_r e (interrupted w R ca k bf ws wr) D q g n (il ca) refl
                 (λ M. finished_interrupts t m i h w_i w_r M ca (is_ca M) w R (is_word t m i h w_i w_r M w (F.fetched M)) (is_at M eret) (is-R M) bf ws wr (sb M) (tlb M) (mem M) p)
@@ -160,7 +162,7 @@ module _ (t m : List ℕ) (e : sound t (length m) ≡ true) (low : Words t) (i :
       abbrev ca₀ : ℕ
       ca₀ = causes v x w false
 
-      pub plain_stops : suppressed ca₀ ≡ true → MayBeDone (length m) b (stopped v w ca₀ WalkChange.Nothing) → K t m i h w_i w_r (stopped v w ca₀ WalkChange.Nothing)
+      pub plain_stops : suppressed ca₀ ≡ true → MayBeDone (length m) b (Ok (stopped v w ca₀ WalkChange.Nothing)) → K t m i h w_i w_r (Ok (stopped v w ca₀ WalkChange.Nothing))
       plain_stops s D =
           stops false no_pfls s WalkChange.Nothing D (λ y. absurd (true_false (sym y ∙ n))) plain_holds
           (λ M. tlb_still t m i h w_i w_r M (none false no_pfls s M flush) (none false no_pfls s M invlpg) (no_pff' M) (no_pfls M))
@@ -200,7 +202,7 @@ module _ (t m : List ℕ) (e : sound t (length m) ≡ true) (low : Words t) (i :
             go false true = incomplete_flushed (base_address (gpr_at v.core (rd w))) (gpr_at v.core (rs w) % 2 ^ 6) (omega arith) (walks b) y
             go false false = refl
 
-        pub plain_done : MayBeDone (length m) b (plain v x w ca₀) → K t m i h w_i w_r (plain v x w ca₀)
+        pub plain_done : MayBeDone (length m) b (Ok (plain v x w ca₀)) → K t m i h w_i w_r (Ok (plain v x w ca₀))
         unfolding written_to
         plain_done D =
             finish false no_pfls s 0 (nothing_read off_all.0 off_all.2) BufferChange.Nothing (dropped_by v.core x w) Write.Nothing D refl
@@ -211,13 +213,13 @@ module _ (t m : List ℕ) (e : sound t (length m) ≡ true) (low : Words t) (i :
     -- ---- an access
 
     module _ (acc : is_access x ≡ true) (f : finds_buffer v.sb x ≡ true) where
-      pub access_unfit : (not u || (among w_r v.tlb && hit (data_request_of v.core x w) w_r)) ≡ false → K t m i h w_i w_r (refused 6)
+      pub access_unfit : (not u || (among w_r v.tlb && hit (data_request_of v.core x w) w_r)) ≡ false → K t m i h w_i w_r (Err NoNextState)
       access_unfit p = refuse t m i h w_i w_r (λ M. guards.stops_unfit_data t m i h w_i w_r M w (F.fetched M) acc p)
 
       module _ (held : (not u || (among w_r v.tlb && hit (data_request_of v.core x w) w_r)) ≡ true) where
         -- that faults
         pub access_faults : ((M : ℕ → ℕ) → (u && fault (memory_of m M) (data_request_of v.core x w) w_r) ≡ true) → ptea w_r + 4 ≤ length m →
-            MayBeDone (length m) b (stopped v w (causes v x w true) (faulted v.core EA)) → K t m i h w_i w_r (stopped v w (causes v x w true) (faulted v.core EA))
+            MayBeDone (length m) b (Ok (stopped v w (causes v x w true) (faulted v.core EA))) → K t m i h w_i w_r (Ok (stopped v w (causes v x w true) (faulted v.core EA)))
         unfolding view processor_of
         access_faults g l D =
             let p : (M : ℕ → ℕ) → report.pfls (c M) i w_i w_r ≡ true = λ M. guards.faults_as t m i h w_i w_r M w (F.fetched M) acc true (g M) in
@@ -226,7 +228,7 @@ module _ (t m : List ℕ) (e : sound t (length m) ≡ true) (low : Words t) (i :
             (λ M. tlb_data t m i h w_i w_r M (none true p s M flush) (none true p s M invlpg) (no_pff' M) (p M) EA (ap (λ (n : ℕ). ea (decoded n) v.core n) (is_word t m i h w_i w_r M w (F.fetched M))))
 
         -- whose entry is missing
-        pub access_misses : u ≡ true → (u && fault (memory_of m nothing) (data_request_of v.core x w) w_r) ≡ true → consulted (data_request_of v.core x w) w_r ≡ true → length m ≤ ptea w_r → K t m i h w_i w_r (refused 7)
+        pub access_misses : u ≡ true → (u && fault (memory_of m nothing) (data_request_of v.core x w) w_r) ≡ true → consulted (data_request_of v.core x w) w_r ≡ true → length m ≤ ptea w_r → K t m i h w_i w_r (Err ByteNowhere)
         access_misses p g q l =
             missed t m i h w_i w_r (ptea w_r) (λ M. needs.misses_data_entry t m i h w_i w_r M w (F.fetched M) p acc q l) (guards.holds_fault t m i h w_i w_r nothing w (F.fetched nothing) acc f held g)
 
@@ -238,13 +240,13 @@ module _ (t m : List ℕ) (e : sound t (length m) ≡ true) (low : Words t) (i :
           abbrev ca₁ : ℕ
           ca₁ = causes v x w false
 
-          pub access_open : (not u || complete w_r) ≡ false → K t m i h w_i w_r (refused 6)
+          pub access_open : (not u || complete w_r) ≡ false → K t m i h w_i w_r (Err NoNextState)
           access_open p = refuse t m i h w_i w_r (λ M. guards.stops_open_data t m i h w_i w_r M w (F.fetched M) acc (no M) p)
 
-          pub access_port : (avoids_ports x && is_port a) ≡ true → K t m i h w_i w_r (refused 6)
+          pub access_port : (avoids_ports x && is_port a) ≡ true → K t m i h w_i w_r (Err NoNextState)
           access_port p = refuse t m i h w_i w_r (λ M. guards.stops_at_port t m i h w_i w_r M w (F.fetched M) acc (no M) p)
 
-          pub access_hazard : has_hazard v.sb x a ≡ true → K t m i h w_i w_r (refused 6)
+          pub access_hazard : has_hazard v.sb x a ≡ true → K t m i h w_i w_r (Err NoNextState)
           access_hazard p = refuse t m i h w_i w_r (λ M. guards.stops_hazard t m i h w_i w_r M w (F.fetched M) acc (no M) p)
 
           pub no_fault : (M : ℕ → ℕ) → report.pfls (c M) i w_i w_r ≡ false
@@ -254,7 +256,7 @@ module _ (t m : List ℕ) (e : sound t (length m) ≡ true) (low : Words t) (i :
             pub holds : (M : ℕ → ℕ) → guarded t m i h w_i w_r M ≡ true
             holds M = guards.holds_access t m i h w_i w_r M w (F.fetched M) acc (no M) f held ended free safe
 
-            pub access_stops : suppressed ca₁ ≡ true → MayBeDone (length m) b (stopped v w ca₁ WalkChange.Nothing) → K t m i h w_i w_r (stopped v w ca₁ WalkChange.Nothing)
+            pub access_stops : suppressed ca₁ ≡ true → MayBeDone (length m) b (Ok (stopped v w ca₁ WalkChange.Nothing)) → K t m i h w_i w_r (Ok (stopped v w ca₁ WalkChange.Nothing))
             access_stops s D =
                 stops false no_fault s WalkChange.Nothing D (λ y. has) holds
                 (λ M. tlb_still t m i h w_i w_r M (none false no_fault s M flush) (none false no_fault s M invlpg) (no_pff' M) (no_fault M))

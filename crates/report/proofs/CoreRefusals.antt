@@ -1,6 +1,8 @@
 -- The refusals 6 of a core's step: a guard of the report fails, whatever is beyond memory. And when all guards hold.
 -- Assumes nothing.
-use Rattle.std.specs.Prelude.{if◌then◌else◌}
+use Rattle.std.specs.Prelude.{if◌then◌else◌, Some, Result, Err}
+use Rattle.refusals.specs.declared.Refusal.{Refusal}
+use Rattle.refusals.specs.declared.Refusal.TheVariants.{NoNextState}
 use mathlib.Core.Path.{◌≡◌, refl, sym, ◌∙◌, ap}
 use mathlib.Core.Bool.{Bool, true, false, not, ◌&&◌, ◌||◌}
 use mathlib.Core.List.{List}
@@ -20,11 +22,11 @@ use Rattle.tlb.specs.Walks.{complete, hit}
 use Rattle.store_buffer.specs.Buffer.{sbhazard}
 use Rattle.store_buffer.specs.System.{is_port}
 use Rattle.tables.specs.Views.{cores_of}
-use Rattle.steps.specs.declared.Step.TheVariants.{Core}
+use Rattle.steps.specs.declared.Step.TheVariants.{ByProcessor}
+use Rattle.steps.specs.declared.ProcessorStep.TheVariants.{Core}
 use Rattle.cores.specs.declared.Plan.{Plan}
-use Rattle.cores.specs.Plans.{refused}
 use Rattle.cores.specs.Core.{View, physical, is_access, finds_buffer, avoids_ports, has_hazard, data_request_of, fetch_request_of}
-use Rattle.machine.specs.declared.action.Action.TheVariants.{Planned}
+use Rattle.machine.specs.Decide.{by_plan}
 use Rattle.report.specs.Configuration.{Configuration, with_m}
 use Rattle.report.specs.Components.{bytes, fault}
 use Rattle.report.specs.Delta as report
@@ -111,14 +113,14 @@ module _ (t m : List ℕ) (i : ℕ) (h : i < cores_of t) (w_i w_r : Walk) where
   abbrev pma_i : ℕ
   pma_i = facts.pma_i t m i w_i w_r
 
-  -- what was decided is the plan p
-  abbrev pub K : Plan → Type 0
-  K p = Case t m (Core i w_i w_r) (Planned i p)
+  -- what was decided is the plan p, or none
+  abbrev pub K : Result Plan Refusal → Type 0
+  K p = Case t m (Some (ByProcessor i (Core w_i w_r))) (by_plan i p)
 
   abbrev pub guarded : (ℕ → ℕ) → Bool
   guarded M = report.core_guards (view t m M) i w_i w_r
 
-  pub refuse : ((M : ℕ → ℕ) → guarded M ≡ false) → K (refused 6)
+  pub refuse : ((M : ℕ → ℕ) → guarded M ≡ false) → K (Err NoNextState)
   unfolding report.core_step
   refuse g = Case.undefined refl (λ q. let z : ◌≡◌ {A = ℕ} 0 1 = cc in omega arith) (λ M. facts.δ_is t m i w_i w_r M h ∙ rw (g M) refl)
 
@@ -133,11 +135,11 @@ module _ (t m : List ℕ) (i : ℕ) (h : i < cores_of t) (w_i w_r : Walk) where
   abbrev pub answers : (ℕ → ℕ) → report.Answer
   answers M = if jisr (report.mca (view t m M) i w_i w_r ovf_of) then report.interrupt (il (report.mca (view t m M) i w_i w_r ovf_of)) else report.done
 
-  pub next_is : (M : ℕ → ℕ) → guarded M ≡ true → δx t m (Core i w_i w_r) M ≡ report.next (next_of M) (answers M)
+  pub next_is : (M : ℕ → ℕ) → guarded M ≡ true → δx t m (Some (ByProcessor i (Core w_i w_r))) M ≡ report.next (next_of M) (answers M)
   unfolding report.core_step
   next_is M g = facts.δ_is t m i w_i w_r M h ∙ rw g refl
 
-  pub allow : (M : ℕ → ℕ) → guarded M ≡ true → Allowed (δx t m (Core i w_i w_r) M)
+  pub allow : (M : ℕ → ℕ) → guarded M ≡ true → Allowed (δx t m (Some (ByProcessor i (Core w_i w_r))) M)
   allow M g = record { to = next_of M; answer = answers M; is_next = next_is M g }
 
   -- ---- before an instruction is fetched

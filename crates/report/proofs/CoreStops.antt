@@ -1,6 +1,8 @@
--- A core's step that fetches no instruction, or stops the one that it fetches: a misaligned pc, a page fault, an interrupt.
+-- A core's step that fetches no instruction, or stops the one that it fetches: a misaligned pc, a page fault, an
+-- interrupt.
 -- Assumes nothing.
-use Rattle.std.specs.Prelude.{if◌then◌else◌}
+use Rattle.std.specs.Prelude.{if◌then◌else◌, Ok, Err}
+use Rattle.refusals.specs.declared.Refusal.TheVariants.{ByteNowhere}
 use mathlib.Core.Path.{◌≡◌, refl, sym, ◌∙◌, ap}
 use mathlib.Core.Bool.{Bool, true, false, not, ◌&&◌, ◌||◌}
 use mathlib.Core.List.{List}
@@ -26,9 +28,8 @@ use Rattle.tables.specs.Sound.{sound}
 use Rattle.steps.specs.declared.Answer.TheVariants.{Done, Interrupt}
 use Rattle.cores.specs.declared.WalkChange.{WalkChange}
 use Rattle.cores.specs.declared.Plan.{Plan}
-use Rattle.cores.specs.Plans.{refused}
 use Rattle.cores.specs.Core.{View, is_event, vector_of, suppressed, stopped, causes_without, faulted, fetch_request_of}
-use Rattle.cores.proofs.Decisions.{MayBeDone}
+use Rattle.cores.proofs.Decisions.{PlanMayBeDone, MayBeDone}
 use Rattle.cores.proofs.Sounds.{tlb_after}
 use Rattle.machine.specs.Actions as machine
 use Rattle.report.specs.Configuration.{Configuration}
@@ -103,23 +104,23 @@ module _ (t m : List ℕ) (i : ℕ) (h : i < cores_of t) (w_i w_r : Walk) where
 
   -- ---- answers
 
-  pub missed : (y : ℕ) → ((M : ℕ → ℕ) → missing (c M) i w_i w_r (length m) y ≡ true) → guarded t m i h w_i w_r nothing ≡ true → K t m i h w_i w_r (refused 7)
+  pub missed : (y : ℕ) → ((M : ℕ → ℕ) → missing (c M) i w_i w_r (length m) y ≡ true) → guarded t m i h w_i w_r nothing ≡ true → K t m i h w_i w_r (Err ByteNowhere)
   unfolding misses
   missed y f g = Case.no_byte refl y f nothing (λ z. omega arith) (allow t m i h w_i w_r nothing g)
 
-  module _ (e : sound t (length m) ≡ true) (p : Plan) (D : MayBeDone (length m) b p) (q : quiet p.write ≡ true) (g : (M : ℕ → ℕ) → guarded t m i h w_i w_r M ≡ true) (n : (M : ℕ → ℕ) → None t m i h w_i w_r M) where
-    pub interrupts : (l : ℕ) → p.answer ≡ Interrupt l → ((M : ℕ → ℕ) → Lands t m i h w_i w_r M p (report.interrupt l)) → K t m i h w_i w_r p
+  module _ (e : sound t (length m) ≡ true) (p : Plan) (D : PlanMayBeDone (length m) b p) (q : quiet p.write ≡ true) (g : (M : ℕ → ℕ) → guarded t m i h w_i w_r M ≡ true) (n : (M : ℕ → ℕ) → None t m i h w_i w_r M) where
+    pub interrupts : (l : ℕ) → p.answer ≡ Interrupt l → ((M : ℕ → ℕ) → Lands t m i h w_i w_r M p (report.interrupt l)) → K t m i h w_i w_r (Ok p)
     unfolding misses machine.tables_after machine.memory_after
-    interrupts l a L = Case.interrupt l a (adds_none t m _ refl) n (λ M. lead t m i h w_i w_r e p D q M (report.interrupt l) (g M) (L M))
+    interrupts l a L = Case.interrupt l (ap Ok a) (adds_none t m _ refl) n (λ M. lead t m i h w_i w_r e p D q M (report.interrupt l) (g M) (L M))
 
-    pub finishes : p.answer ≡ Done → ((M : ℕ → ℕ) → Lands t m i h w_i w_r M p report.done) → K t m i h w_i w_r p
+    pub finishes : p.answer ≡ Done → ((M : ℕ → ℕ) → Lands t m i h w_i w_r M p report.done) → K t m i h w_i w_r (Ok p)
     unfolding misses machine.tables_after machine.memory_after
-    finishes a L = Case.done a (adds_none t m _ refl) n (λ M. lead t m i h w_i w_r e p D q M report.done (g M) (L M))
+    finishes a L = Case.done (ap Ok a) (adds_none t m _ refl) n (λ M. lead t m i h w_i w_r e p D q M report.done (g M) (L M))
 
   -- an interrupt that stops the instruction, and the walks that go
-  module _ (e : sound t (length m) ≡ true) (w ca : ℕ) (ws : WalkChange) (D : MayBeDone (length m) b (stopped v w ca ws)) where
+  module _ (e : sound t (length m) ≡ true) (w ca : ℕ) (ws : WalkChange) (D : MayBeDone (length m) b (Ok (stopped v w ca ws))) where
     pub halts : ((M : ℕ → ℕ) → guarded t m i h w_i w_r M ≡ true) → ((M : ℕ → ℕ) → None t m i h w_i w_r M) →
-        ((M : ℕ → ℕ) → Lands t m i h w_i w_r M (stopped v w ca ws) (report.interrupt (il ca))) → K t m i h w_i w_r (stopped v w ca ws)
+        ((M : ℕ → ℕ) → Lands t m i h w_i w_r M (stopped v w ca ws) (report.interrupt (il ca))) → K t m i h w_i w_r (Ok (stopped v w ca ws))
     halts g n L = interrupts e (stopped v w ca ws) D refl g n (il ca) refl L
 
   -- ---- without an instruction
@@ -159,7 +160,7 @@ module _ (t m : List ℕ) (i : ℕ) (h : i < cores_of t) (w_i w_r : Walk) where
     mis_guards M =
         hold_without (c M) i w_i w_r (mis_word M) (off (u && al) _ mis_walk) (holds_unasked (u && al) _ mis_walk) run
 
-    pub misaligned : MayBeDone (length m) b (stopped v 0 (causes_without v true false) WalkChange.Nothing) → K t m i h w_i w_r (stopped v 0 (causes_without v true false) WalkChange.Nothing)
+    pub misaligned : MayBeDone (length m) b (Ok (stopped v 0 (causes_without v true false) WalkChange.Nothing)) → K t m i h w_i w_r (Ok (stopped v 0 (causes_without v true false) WalkChange.Nothing))
     misaligned D =
         halts e 0 (causes_without v true false) WalkChange.Nothing D mis_guards
         (λ M. has_without t m i h w_i w_r M (mis_word M) (λ a. absurd (true_false (sym a ∙ mis))))
@@ -181,7 +182,7 @@ module _ (t m : List ℕ) (i : ℕ) (h : i < cores_of t) (w_i w_r : Walk) where
 
   module _ (e : sound t (length m) ≡ true) (run : v.running ≡ true) (ali : al ≡ true) (held : (not u || (among w_i v.tlb && hit (fetch_request_of v.core) w_i)) ≡ true) (user : u ≡ true) where
     pub fetch_faults : ((M : ℕ → ℕ) → (u && fault (memory_of m M) (fetch_request_of v.core) w_i) ≡ true) → ptea w_i + 4 ≤ length m →
-        MayBeDone (length m) b (stopped v 0 (causes_without v false true) (faulted v.core v.core.pc)) → K t m i h w_i w_r (stopped v 0 (causes_without v false true) (faulted v.core v.core.pc))
+        MayBeDone (length m) b (Ok (stopped v 0 (causes_without v false true) (faulted v.core v.core.pc))) → K t m i h w_i w_r (Ok (stopped v 0 (causes_without v false true) (faulted v.core v.core.pc)))
     fetch_faults f l D =
         halts e 0 (causes_without v false true) (faulted v.core v.core.pc) D (λ M. faulty_guards run ali held M user (f M))
         (λ M. has_without t m i h w_i w_r M (faulty_word run ali held M user (f M)) (λ a k. l))
@@ -190,5 +191,5 @@ module _ (t m : List ℕ) (i : ℕ) (h : i < cores_of t) (w_i w_r : Walk) where
         let p = faulty_pff run ali held M user (f M) in
         halts_without M n (causes_without v false true) (faulted v.core v.core.pc) (facts.causes_without_lem t m i w_i w_r M n true true ali p) (pff_stops raised) (tlb_fetch M (nothing_done M n flush) (nothing_done M n invlpg) p))
 
-    pub fetch_misses : (u && fault (memory_of m nothing) (fetch_request_of v.core) w_i) ≡ true → consulted (fetch_request_of v.core) w_i ≡ true → length m ≤ ptea w_i → K t m i h w_i w_r (refused 7)
+    pub fetch_misses : (u && fault (memory_of m nothing) (fetch_request_of v.core) w_i) ≡ true → consulted (fetch_request_of v.core) w_i ≡ true → length m ≤ ptea w_i → K t m i h w_i w_r (Err ByteNowhere)
     fetch_misses f k l = missed (ptea w_i) (λ M. misses_entry t m i h w_i w_r M user ali k l) (faulty_guards run ali held nothing user f)

@@ -1,6 +1,8 @@
 -- Demand 2 for the step of the store buffer.
 -- Assumes nothing.
-use Rattle.std.specs.Prelude.{if◌then◌else◌}
+use Rattle.std.specs.Prelude.{if◌then◌else◌, Option, Some, Result, Err}
+use Rattle.refusals.specs.declared.Refusal.{Refusal}
+use Rattle.refusals.specs.declared.Refusal.TheVariants.{NoNextState}
 use mathlib.Core.Path.{◌≡◌, refl, sym, ◌∙◌, ap, ap₂, subst}
 use mathlib.Core.Logic.{⊎_elim}
 use mathlib.Core.Bool.{Bool, true, false, not, ◌&&◌, ◌||◌}
@@ -27,19 +29,19 @@ use Rattle.store_buffer.specs.Leaving.{oldest, word_only, place_of}
 use Rattle.store_buffer.specs.System.{apicadr, ioapicadr}
 use Rattle.ioapic.specs.IoApic.{writes}
 use Rattle.steps.specs.declared.Step.{Step}
-use Rattle.steps.specs.declared.Step.TheVariants as kind
+use Rattle.steps.specs.declared.Step.TheVariants.{ByProcessor}
+use Rattle.steps.specs.declared.ProcessorStep.TheVariants.{StoreBuffer}
 use Rattle.cores.specs.declared.BufferChange.TheVariants.{Take}
 use Rattle.cores.specs.declared.WalkChange.{WalkChange}
 use Rattle.cores.specs.declared.Write.{Write}
 use Rattle.cores.specs.declared.Write.TheVariants.{Memory, LocalPort, IoPort}
 use Rattle.cores.specs.declared.Plan.{Plan}
-use Rattle.cores.specs.Plans.{refused, done}
+use Rattle.cores.specs.Plans.{done}
 use Rattle.cores.specs.BufferStep.{leaves_to, on_oldest}
 use Rattle.cores.specs.Commit.{written_to}
-use Rattle.cores.proofs.Decisions.{MayBeDone, drain_plan}
-use Rattle.machine.specs.declared.action.Action.TheVariants.{Planned}
-use Rattle.machine.specs.Actions.{tables_after, memory_after}
-use Rattle.machine.specs.Decide.{by_step}
+use Rattle.cores.proofs.Decisions.{PlanMayBeDone, MayBeDone, drain_plan}
+use Rattle.machine.specs.Actions.{Planned, tables_after, memory_after}
+use Rattle.machine.specs.Decide.{by_processor, by_plan, by_step}
 use Rattle.machine.proofs.Fitting.{quarters}
 use Rattle.report.specs.Configuration.{IoApic, Configuration, upd}
 use Rattle.report.specs.Components.{inside, ΣM, δm, ΣApic, δapic, ΣIoApic, δioapic}
@@ -85,8 +87,8 @@ module _ (t m : List ℕ) (e : sound t (length m) ≡ true) (k : ℕ) (h : k < c
   abbrev a : ℕ
   a = s.address
 
-  abbrev x : Step
-  x = kind.StoreBuffer k
+  abbrev x : Option Step
+  x = Some (ByProcessor k StoreBuffer)
 
   has : Has t m x
   unfolding misses view processor_of
@@ -117,7 +119,7 @@ module _ (t m : List ℕ) (e : sound t (length m) ≡ true) (k : ℕ) (h : k < c
   abbrev plan : Write → Plan
   plan w = done Take WalkChange.Nothing w
 
-  leads : (w : Write) (D : MayBeDone n b (plan w)) → PortWhole w → (M f : ℕ → ℕ) (io : IoApic) → ((y : ℕ) → y < 2 ^ 32 → f y ≡ memory_of (written_to w m) M y) →
+  leads : (w : Write) (D : PlanMayBeDone n b (plan w)) → PortWhole w → (M f : ℕ → ℕ) (io : IoApic) → ((y : ℕ) → y < 2 ^ 32 → f y ≡ memory_of (written_to w m) M y) →
       SameIo io (ioapic_of (tables_after (Planned k (plan w)) t)) →
       Same
       (record {
@@ -137,7 +139,7 @@ module _ (t m : List ℕ) (e : sound t (length m) ≡ true) (k : ℕ) (h : k < c
 
   -- where it may not go
   stays : (l i z y : Bool) → local_port a ≡ l → io_port a ≡ i → eqb s.width 4 ≡ z → writes (ioapicadr a) s.value ≡ y → ((not (l || i) || z) && (not i || y)) ≡ false →
-      Case t m x (Planned k (refused 6))
+      Case t m x (by_plan k (Err NoNextState))
   stays l i z y p r f g u =
       Case.undefined refl (is_a_step x refl) (λ M. outcome M l i z y p r f g ∙ ap (λ (c : Bool). if c then report.next (left M l i) report.done else report.none) u)
 
@@ -148,7 +150,7 @@ module _ (t m : List ℕ) (e : sound t (length m) ≡ true) (k : ℕ) (h : k < c
   word f = subst (λ (d : ℕ). a % d ≡ 0) (eqb-true s.width 4 f) S.aligned
 
   to_local : local_port a ≡ true → (z : Bool) → eqb s.width 4 ≡ z → MayBeDone n b (leaves_to s (if z then to.LocalPort (apicadr a) else to.Narrow)) →
-      Case t m x (Planned k (leaves_to s (if z then to.LocalPort (apicadr a) else to.Narrow)))
+      Case t m x (by_plan k (leaves_to s (if z then to.LocalPort (apicadr a) else to.Narrow)))
   unfolding leaves_to written_to tables_after
   to_local p true f D =
       let w : Write = LocalPort (apicadr a) s.value in
@@ -162,7 +164,7 @@ module _ (t m : List ℕ) (e : sound t (length m) ≡ true) (k : ℕ) (h : k < c
   to_local p false f D = stays true false false y p (one_port a p) f refl refl
 
   to_io : local_port a ≡ false → io_port a ≡ true → (z c : Bool) → eqb s.width 4 ≡ z → y ≡ c → MayBeDone n b (leaves_to s (if z then to.IoPort (ioapicadr a) else to.Narrow)) →
-      Case t m x (Planned k (leaves_to s (if z then to.IoPort (ioapicadr a) else to.Narrow)))
+      Case t m x (by_plan k (leaves_to s (if z then to.IoPort (ioapicadr a) else to.Narrow)))
   unfolding leaves_to written_to tables_after
   to_io p r true true f g =
       let w : Write = IoPort (ioapicadr a) s.value in
@@ -178,7 +180,7 @@ module _ (t m : List ℕ) (e : sound t (length m) ≡ true) (k : ℕ) (h : k < c
   to_io p r false c f g = λ D. stays false true false c p r f g refl
 
   to_memory : local_port a ≡ false → io_port a ≡ false → (c : Bool) → leb (a + s.width) n ≡ c → MayBeDone n b (leaves_to s (if c then to.Memory else to.Beyond)) →
-      Case t m x (Planned k (leaves_to s (if c then to.Memory else to.Beyond)))
+      Case t m x (by_plan k (leaves_to s (if c then to.Memory else to.Beyond)))
   unfolding leaves_to written_to tables_after δm
   to_memory p r true f D =
       let w : Write = Memory a s.width s.value in
@@ -191,24 +193,24 @@ module _ (t m : List ℕ) (e : sound t (length m) ≡ true) (k : ℕ) (h : k < c
       })
   to_memory p r false f D = absurd (omega (arith, leb-false (a + s.width) n f, in_memory n s (quarters t n e) S p r))
 
-  leaves : MayBeDone n b (leaves_to s (place_of n s)) → Case t m x (Planned k (leaves_to s (place_of n s)))
+  leaves : MayBeDone n b (leaves_to s (place_of n s)) → Case t m x (by_plan k (leaves_to s (place_of n s)))
   unfolding place_of
   leaves = go (local_port a) (io_port a) refl refl
     where
-      by : Bool → Bool → Plan
+      by : Bool → Bool → Result Plan Refusal
       by l i = leaves_to s (if l then word_only s (to.LocalPort (apicadr a)) else if i then word_only s (to.IoPort (ioapicadr a)) else if leb (a + s.width) n then to.Memory else to.Beyond)
 
-      go : (l i : Bool) → local_port a ≡ l → io_port a ≡ i → MayBeDone n b (by l i) → Case t m x (Planned k (by l i))
+      go : (l i : Bool) → local_port a ≡ l → io_port a ≡ i → MayBeDone n b (by l i) → Case t m x (by_plan k (by l i))
       go true i p r = to_local p (eqb s.width 4) refl
       go false true p r = to_io p r (eqb s.width 4) y refl refl
       go false false p r = to_memory p r (leb (a + s.width) n) refl
 
 module _ (t m : List ℕ) (e : sound t (length m) ≡ true) (k : ℕ) (h : k < cores_of t) where
-  pub buffer_case : Case t m (kind.StoreBuffer k) (by_step t m (kind.StoreBuffer k))
-  unfolding by_step on_oldest all report.δBy report.sb_step view processor_of
+  pub buffer_case : Case t m (Some (ByProcessor k StoreBuffer)) (by_step t m (Some (ByProcessor k StoreBuffer)))
+  unfolding by_step by_processor on_oldest all report.δBy report.sb_step view processor_of
   buffer_case = go (stores (block t k)) refl (block_stores (length m) (block t k) (core_sound t (length m) e k h)) (drain_plan (length m) (block t k) (core_sound t (length m) e k h))
     where
       go : (l : List Store) → stores (block t k) ≡ l → all (store_sound (length m)) l ≡ true → MayBeDone (length m) (block t k) (on_oldest (length m) (oldest l)) →
-          Case t m (kind.StoreBuffer k) (Planned k (on_oldest (length m) (oldest l)))
+          Case t m (Some (ByProcessor k StoreBuffer)) (by_plan k (on_oldest (length m) (oldest l)))
       go [] q a D = Case.undefined refl (is_a_step _ refl) (λ M. rw (lt-ltb k (cores_of t) h, q))
       go (s ∷ sb) q a D = leaves t m e k h s sb q (store_facts (length m) s (and_left (store_sound (length m) s) _ a)) D

@@ -46,7 +46,7 @@ use Rattle.cores.specs.Commit.{core_after, buffer_after, walks_after, port_after
 use Rattle.cores.specs.inner.Ready.{buffer_ready, walks_ready, port_ready, ready}
 use Rattle.cores.proofs.Changes.{Full, effect_full, jisr_full, rfe_full, buffer_asks, walks_ask}
 use Rattle.cores.proofs.Sounds.{Shows, plan_shows, store_brought, walk_brought, registers_after, stores_after, tlb_after, plan_sound}
-use Rattle.cores.proofs.Decisions.{MayBeDone}
+use Rattle.cores.proofs.Decisions.{PlanMayBeDone}
 use Rattle.cores.proofs.Locals.{is_io, header_still, plan_long, tables_own, tables_other, tables_local}
 use Rattle.report.specs.Configuration.{Apic, Processor, IoApic, Configuration, upd, with_m, with_apic, with_redirect}
 use Rattle.report.specs.Components.{ΣApic, δapic, ΣIoApic, δioapic}
@@ -293,7 +293,7 @@ module _ (n : ℕ) (p : Plan) (b : List ℕ) (long : length b ≡ 256) (e : soun
   plan_processor tlb f = shown (plan_shows n p b long e r s) tlb f (apic_write p.write (apic_core p.core (apic_of b))) plan_apic
 
 -- the configuration after a plan of core k: another processor, memory and I/O APIC
-module _ (t m : List ℕ) (k : ℕ) (p : Plan) (e : sound t (length m) ≡ true) (h : k < cores_of t) (D : MayBeDone (length m) (block t k) p) where
+module _ (t m : List ℕ) (k : ℕ) (p : Plan) (e : sound t (length m) ≡ true) (h : k < cores_of t) (D : PlanMayBeDone (length m) (block t k) p) where
   abbrev u : List ℕ
   u = tables_by_plan k p t
 

@@ -1,6 +1,8 @@
--- Demand 2 and its exception: what is claimed is δ by the trade's rule, so that each case of a step gives its ground, kind by kind; and what that says of a step that δ allows.
+-- Demand 2 and its exception: what is claimed is δ by the trade's rule, so that each case of a step gives its ground,
+-- kind by kind; and what that says of a step that δ allows.
 -- Assumes nothing.
-use Rattle.std.specs.Prelude.{if◌then◌else◌}
+use Rattle.std.specs.Prelude.{if◌then◌else◌, Option, Some, None, Result, Ok, Err, IfOk, is_ok}
+use Rattle.refusals.specs.declared.Refusal.{Refusal}
 use mathlib.Core.Path.{◌≡◌, refl, ap, sym, ◌∙◌, subst}
 use mathlib.Core.Bool.{true, Bool, false, ◌&&◌, ◌||◌}
 use mathlib.Core.List.{List, [], ◌∷◌, ◌++◌}
@@ -9,6 +11,7 @@ use native.Mathlib.Omega.{arith}
 use lib.Dec.{ltb}
 use lib.ListN.{length, length-append}
 use borrow.Author.Tests.{ltb-true, eq-eqb}
+use Rattle.word.proofs.Tests.{true_false}
 use Rattle.word.proofs.Truth.{and_left, and_right}
 use Rattle.layout.specs.Blocks.{block}
 use Rattle.decode.specs.Mnemonics.{store, load, cas, flush, invlpg, eret}
@@ -25,16 +28,17 @@ use Rattle.tables.proofs.Steps.{block_few_stores}
 use Rattle.steps.specs.declared.Answer.{Answer}
 use Rattle.steps.specs.declared.Answer.TheVariants.{Done, Interrupt}
 use Rattle.steps.specs.declared.Step.{Step}
-use Rattle.steps.specs.declared.Step.TheVariants as kind
 use Rattle.steps.specs.Form.{step_of}
-use Rattle.steps.specs.declared.Step.TheVariants.{Core, TlbCreate, TlbExtend, TlbAccessed, StoreBuffer, SendIpi, SendEoi, InitCore, StartCore, Sample, Deliver, SetLine, NotAStep}
+use Rattle.steps.specs.declared.Step.TheVariants.{ByProcessor, ByApic}
+use Rattle.steps.specs.declared.ProcessorStep.TheVariants.{Core, TlbCreate, TlbExtend, TlbAccessed, StoreBuffer}
+use Rattle.steps.specs.declared.ApicStep.TheVariants.{SendIpi, SendEoi, InitCore, StartCore, Sample, Deliver, SetLine}
 use Rattle.machine.specs.Decide.{by_step, decided}
 use Rattle.machine.specs.Step.{step, Stepped, taken}
-use Rattle.machine.specs.inner.Split.{formed}
-use Rattle.machine.proofs.Forms.{step_formed}
-use Rattle.machine.specs.Actions.{tables_after, memory_after}
-use Rattle.machine.proofs.Keeping.{decided_keeps, step_keeps, step_long, step_sound}
-use Rattle.machine.proofs.Taking.{taken_accepted, taken_refused, is_sound}
+use Rattle.machine.proofs.Forms.{Formed, step_formed}
+use Rattle.machine.specs.Actions.{Effect, answer_of, tables_after}
+use Rattle.machine.proofs.Keeping.{Keeps, decided_keeps, step_keeps, step_long, step_sound}
+use Rattle.machine.proofs.Taking.{taken_accepted, is_sound}
+use Rattle.machine.proofs.Answers.{after_answer}
 use Rattle.report.specs.Demands.{outcome, Ground, Demand2, limited, Unhindered, Words, Bytes, Next, Full, Kept, Accepted, Allowed, excepted, claimed, Exception}
 use Rattle.report.specs.Delta as report
 use Rattle.report.specs.View.{view, processor_of}
@@ -112,55 +116,55 @@ module _ (c : Configuration) (i : ℕ) (w_i w_r : Walk) where
 
 -- ---- a step of any kind
 
-pub claimed_trade : (c : Configuration) (a : Step) → claimed c a ≡ report.δBy ovf_of c a
+pub claimed_trade : (c : Configuration) (a : Option Step) → claimed c a ≡ report.δBy ovf_of c a
 unfolding claimed report.δBy
-claimed_trade c (Core i w_i w_r) = go (report.is c i w_i w_r excepted) refl
+claimed_trade c (Some (ByProcessor i (Core w_i w_r))) = go (report.is c i w_i w_r excepted) refl
   where
-    go : (b : Bool) → report.is c i w_i w_r excepted ≡ b → (if b then report.δBy ovf_of c (Core i w_i w_r) else report.δ c (Core i w_i w_r)) ≡ report.δBy ovf_of c (Core i w_i w_r)
+    go : (b : Bool) → report.is c i w_i w_r excepted ≡ b → (if b then report.δBy ovf_of c (Some (ByProcessor i (Core w_i w_r))) else report.δ c (Some (ByProcessor i (Core w_i w_r)))) ≡ report.δBy ovf_of c (Some (ByProcessor i (Core w_i w_r)))
     go true e = refl
     go false e = ap (λ (o : report.Outcome). if ltb i c.np then o else report.none) (step_by c i w_i w_r (causes_same c i w_i w_r (report.fetched c i w_i w_r) refl e))
-claimed_trade c (StoreBuffer i) = refl
-claimed_trade c (TlbCreate i va) = refl
-claimed_trade c (TlbAccessed i w) = refl
-claimed_trade c (TlbExtend i w) = refl
-claimed_trade c (SendIpi i) = refl
-claimed_trade c (SendEoi i) = refl
-claimed_trade c (InitCore i) = refl
-claimed_trade c (StartCore i) = refl
-claimed_trade c (Sample k) = refl
-claimed_trade c (Deliver k) = refl
-claimed_trade c (SetLine k level) = refl
-claimed_trade c NotAStep = refl
+claimed_trade c (Some (ByProcessor i StoreBuffer)) = refl
+claimed_trade c (Some (ByProcessor i (TlbCreate va))) = refl
+claimed_trade c (Some (ByProcessor i (TlbAccessed w))) = refl
+claimed_trade c (Some (ByProcessor i (TlbExtend w))) = refl
+claimed_trade c (Some (ByApic (SendIpi i))) = refl
+claimed_trade c (Some (ByApic (SendEoi i))) = refl
+claimed_trade c (Some (ByApic (InitCore i))) = refl
+claimed_trade c (Some (ByApic (StartCore i))) = refl
+claimed_trade c (Some (ByApic (Sample k))) = refl
+claimed_trade c (Some (ByApic (Deliver k))) = refl
+claimed_trade c (Some (ByApic (SetLine k level))) = refl
+claimed_trade c None = refl
 
 -- by either rule δ is defined for the same steps
-δ_alike : (c : Configuration) (a : Step) → Alike (report.δBy ovf_of c a) (report.δ c a)
+δ_alike : (c : Configuration) (a : Option Step) → Alike (report.δBy ovf_of c a) (report.δ c a)
 unfolding report.δBy
-δ_alike c (Core i w_i w_r) = go (ltb i c.np)
+δ_alike c (Some (ByProcessor i (Core w_i w_r))) = go (ltb i c.np)
   where
     go : (b : Bool) → Alike (if b then report.core_step c i w_i w_r ovf_of else report.none) (if b then report.core_step c i w_i w_r report.by_table else report.none)
     go true = core_alike c i w_i w_r
     go false = Alike.none
-δ_alike c (StoreBuffer i) = itself _
-δ_alike c (TlbCreate i va) = itself _
-δ_alike c (TlbAccessed i w) = itself _
-δ_alike c (TlbExtend i w) = itself _
-δ_alike c (SendIpi i) = itself _
-δ_alike c (SendEoi i) = itself _
-δ_alike c (InitCore i) = itself _
-δ_alike c (StartCore i) = itself _
-δ_alike c (Sample k) = itself _
-δ_alike c (Deliver k) = itself _
-δ_alike c (SetLine k level) = itself _
-δ_alike c NotAStep = Alike.none
+δ_alike c (Some (ByProcessor i StoreBuffer)) = itself _
+δ_alike c (Some (ByProcessor i (TlbCreate va))) = itself _
+δ_alike c (Some (ByProcessor i (TlbAccessed w))) = itself _
+δ_alike c (Some (ByProcessor i (TlbExtend w))) = itself _
+δ_alike c (Some (ByApic (SendIpi i))) = itself _
+δ_alike c (Some (ByApic (SendEoi i))) = itself _
+δ_alike c (Some (ByApic (InitCore i))) = itself _
+δ_alike c (Some (ByApic (StartCore i))) = itself _
+δ_alike c (Some (ByApic (Sample k))) = itself _
+δ_alike c (Some (ByApic (Deliver k))) = itself _
+δ_alike c (Some (ByApic (SetLine k level))) = itself _
+δ_alike c None = Alike.none
 
-pub defined_none : (c : Configuration) (a : Step) → report.δBy ovf_of c a ≡ report.none → report.δ c a ≡ report.none
+pub defined_none : (c : Configuration) (a : Option Step) → report.δBy ovf_of c a ≡ report.none → report.δ c a ≡ report.none
 defined_none c a = go (δ_alike c a)
   where
     go : {o p : report.Outcome} → Alike o p → o ≡ report.none → p ≡ report.none
     go Alike.none q = refl
     go (Alike.next x y r s) q = absurd (let z : ◌≡◌ {A = ℕ} 0 1 = cc in omega arith)
 
-pub defined_allowed : (c : Configuration) (a : Step) → Allowed (report.δBy ovf_of c a) → Allowed (report.δ c a)
+pub defined_allowed : (c : Configuration) (a : Option Step) → Allowed (report.δBy ovf_of c a) → Allowed (report.δ c a)
 defined_allowed c a = go (δ_alike c a)
   where
     go : {o p : report.Outcome} → Alike o p → Allowed o → Allowed p
@@ -178,13 +182,13 @@ exception =
       masked = λ c i w_i w_r e. is_δ c i w_i w_r (causes_masked c i w_i w_r e);
     }
   where
-    is_δ : (c : Configuration) (i : ℕ) (w_i w_r : Walk) → Same c i w_i w_r → claimed c (Core i w_i w_r) ≡ report.δ c (Core i w_i w_r)
-    is_δ c i w_i w_r e = claimed_trade c (Core i w_i w_r) ∙ sym (ap (λ (o : report.Outcome). if ltb i c.np then o else report.none) (step_by c i w_i w_r e))
+    is_δ : (c : Configuration) (i : ℕ) (w_i w_r : Walk) → Same c i w_i w_r → claimed c (Some (ByProcessor i (Core w_i w_r))) ≡ report.δ c (Some (ByProcessor i (Core w_i w_r)))
+    is_δ c i w_i w_r e = claimed_trade c (Some (ByProcessor i (Core w_i w_r))) ∙ sym (ap (λ (o : report.Outcome). if ltb i c.np then o else report.none) (step_by c i w_i w_r e))
 
 -- ---- a store that takes effect is one more, so that eight were not pending if the tables after it are sound
 
 module _ (c : Configuration) (i : ℕ) (w_i w_r : Walk) (r : report.Answer) (to : Configuration) (d : report.does c i w_i w_r ovf_of store ≡ true) where
-  one_more : report.δBy ovf_of c (kind.Core i w_i w_r) ≡ report.next to r → (i < to.np) × (length (to.p i).sb ≡ length (c.p i).sb + 1)
+  one_more : report.δBy ovf_of c (Some (ByProcessor i (Core w_i w_r))) ≡ report.next to r → (i < to.np) × (length (to.p i).sb ≡ length (c.p i).sb + 1)
   unfolding report.δBy report.core_step report.sb'
   one_more q = go (ltb i c.np) refl (report.core_guards c i w_i w_r) q
     where
@@ -211,7 +215,7 @@ module _ (c : Configuration) (i : ℕ) (w_i w_r : Walk) (r : report.Answer) (to 
       go true h false q = absurd (let z : ◌≡◌ {A = ℕ} 0 1 = cc in omega arith)
       go false h g q = absurd (let z : ◌≡◌ {A = ℕ} 0 1 = cc in omega arith)
 
-module _ (t m : List ℕ) (x : Step) (M : ℕ → ℕ) (r : report.Answer) (u v : List ℕ) where
+module _ (t m : List ℕ) (x : Option Step) (M : ℕ → ℕ) (r : report.Answer) (u v : List ℕ) where
   not_full : Next (report.δBy ovf_of (view t m M) x) r (view u v M) → sound u (length v) ≡ true → Full t m x M → ⊥
   unfolding view processor_of
   not_full N e F =
@@ -225,25 +229,26 @@ module _ (t m : List ℕ) (x : Step) (M : ℕ → ℕ) (r : report.Answer) (u v 
 -- ---- the step that the words s say
 
 module _ (t m s : List ℕ) (e : sound t (length m) ≡ true) (ws : Words t) (bs : Bytes m) where
-  abbrev x : Step
+  abbrev x : Option Step
   x = step_of (cores_of t) s
 
   abbrev r : Stepped
   r = step t m s
 
   -- what step answers, and leaves where it is not refused
-  abbrev Is : Answer → List ℕ → List ℕ → Type 0
+  abbrev Is : Result Answer Refusal → List ℕ → List ℕ → Type 0
   Is q u v = (q ≡ r.answer) × (u ≡ r.tables) × (v ≡ r.memory)
 
-  on_sound : {q : Answer} {u v : List ℕ} → (q ≡ (taken t m s).answer) × (u ≡ (taken t m s).tables) × (v ≡ (taken t m s).memory) → Is q u v
+  on_sound : {q : Result Answer Refusal} {u v : List ℕ} → (q ≡ (taken t m s).answer) × (u ≡ (taken t m s).tables) × (v ≡ (taken t m s).memory) → Is q u v
   on_sound {q} {u} {v} = subst (λ (z : Stepped). (q ≡ z.answer) × (u ≡ z.tables) × (v ≡ z.memory)) (is_sound t m s e)
 
   after_sound : sound r.tables (length r.memory) ≡ true
   after_sound = step_sound t m s e ws bs
 
-  kept : tables_after (decided t m s) t ≡ r.tables → Kept t m r.tables r.memory
-  kept q =
+  kept : (y : Effect) → Ok y ≡ decided t m s → tables_after y t ≡ r.tables → Kept t m r.tables r.memory
+  kept y d q =
       let K = step_keeps t m s e ws bs in
+      let D : Keeps (length m) t (tables_after y t) = subst (λ (z : Result Effect Refusal). IfOk z (λ y. Keeps (length m) t (tables_after y t))) (sym d) (decided_keeps t m e ws bs s) in
       let long = step_long t m s in
       let before = header t (length m) e in
       let after = header r.tables (length r.memory) after_sound in
@@ -253,33 +258,44 @@ module _ (t m s : List ℕ) (e : sound t (length m) ≡ true) (ws : Words t) (bs
         memory_long = long;
         cores = K.cores;
         pages = omega (arith, long, before.bytes, after.bytes);
-        count = ap refusals_of (sym q) ∙ (decided_keeps t m e ws bs s).count;
-        core_counts = λ k h. ap (λ (u : List ℕ). core_refusals_of (block u k)) (sym q) ∙ (decided_keeps t m e ws bs s).core_counts k h;
+        count = ap refusals_of (sym q) ∙ D.count;
+        core_counts = λ k h. ap (λ (u : List ℕ). core_refusals_of (block u k)) (sym q) ∙ D.core_counts k h;
       }
 
-  accepted : {q : Answer} (o : report.Answer) → Is q (tables_after (decided t m s) t) (memory_after (decided t m s) m) → Roomy t m x → Has t m x → Leads t m x (decided t m s) o → Accepted t m s o
-  accepted o I y p n =
+  -- by what was decided
+  accepted : (o : report.Answer) (d : Result Effect Refusal) → d ≡ decided t m s → is_ok d ≡ true → Roomy t m x → Has t m x → Leads t m x d o → Accepted t m s o
+  accepted o (Err z) d f y p n = absurd (true_false (sym f))
+  accepted o (Ok z) d f y p n =
+      let I = on_sound (taken_accepted t m s z d) in
       let next : (M : ℕ → ℕ) → Next (δx t m x M) o (view r.tables r.memory M)
-      = λ M. subst (λ (u : List ℕ). Next (δx t m x M) o (view u r.memory M)) I.1 (subst (λ (v : List ℕ). Next (δx t m x M) o (view (tables_after (decided t m s) t) v M)) I.2 (n M)) in
-      record { next = λ M. subst (λ (z : report.Outcome). Next z o (view r.tables r.memory M)) (sym (claimed_trade (view t m M) x)) (next M); kept = kept I.1; present = p; not_full = λ M. not_full t m x M o r.tables r.memory (next M) after_sound; not_crowded = y }
+      = λ M. subst (λ (u : List ℕ). Next (δx t m x M) o (view u r.memory M)) I.1 (subst (λ (v : List ℕ). Next (δx t m x M) o (view (tables_after z t) v M)) I.2 (n M)) in
+      record { next = λ M. subst (λ (z : report.Outcome). Next z o (view r.tables r.memory M)) (sym (claimed_trade (view t m M) x)) (next M); kept = kept z d I.1; present = p; not_full = λ M. not_full t m x M o r.tables r.memory (next M) after_sound; not_crowded = y }
 
-  abbrev Ok : Answer → Type 0
-  Ok q = Ground t m s q
+  abbrev Grounded : Result Answer Refusal → Type 0
+  Grounded q = Ground t m s q
 
-  pub ground : Case t m x (decided t m s) → Ok r.answer
-  ground (Case.done a y p n) = let I = on_sound (taken_accepted t m s Done refl (sym a)) in subst Ok I.0 (Ground.done (accepted report.done I y p n))
+  answer_is : answer_of (decided t m s) ≡ r.answer
+  unfolding taken
+  answer_is = sym (after_answer s (decided t m s) t m) ∙ ap (λ (z : Stepped). z.answer) (is_sound t m s e)
+
+  ok_of : (d : Result Effect Refusal) (a : Answer) → answer_of d ≡ Ok a → is_ok d ≡ true
+  ok_of (Ok y) a q = refl
+  ok_of (Err y) a q = ap is_ok q
+
+  pub ground : Case t m x (decided t m s) → Grounded r.answer
+  ground (Case.done a y p n) = subst Grounded (sym a ∙ answer_is) (Ground.done (accepted report.done (decided t m s) refl (ok_of (decided t m s) Done a) y p n))
   ground (Case.interrupt level a y p n) =
-      let I = on_sound (taken_accepted t m s (Interrupt level) refl (sym a)) in subst Ok I.0 (Ground.interrupt level (accepted (report.interrupt level) I y p n))
-  ground (Case.no_step a p) = subst Ok (on_sound (taken_refused t m s 5 (sym a))).0 (Ground.no_step p)
-  ground (Case.undefined a p q) = subst Ok (on_sound (taken_refused t m s 6 (sym a))).0 (Ground.undefined p (λ M. defined_none (view t m M) x (q M)))
-  ground (Case.no_byte a y p M b d) = subst Ok (on_sound (taken_refused t m s 7 (sym a))).0 (Ground.no_byte y p M b (defined_allowed (view t m M) x d))
-  ground (Case.no_store a h d q) = subst Ok (on_sound (taken_refused t m s 8 (sym a))).0 (Ground.no_store h (λ M. defined_allowed (view t m M) x (d M)) q)
-  ground (Case.no_walk a h d q) = subst Ok (on_sound (taken_refused t m s 9 (sym a))).0 (Ground.no_walk h (λ M. defined_allowed (view t m M) x (d M)) q)
+      subst Grounded (sym a ∙ answer_is) (Ground.interrupt level (accepted (report.interrupt level) (decided t m s) refl (ok_of (decided t m s) (Interrupt level) a) y p n))
+  ground (Case.no_step a p) = subst Grounded (sym a ∙ answer_is) (Ground.no_step p)
+  ground (Case.undefined a p q) = subst Grounded (sym a ∙ answer_is) (Ground.undefined p (λ M. defined_none (view t m M) x (q M)))
+  ground (Case.no_byte a y p M b d) = subst Grounded (sym a ∙ answer_is) (Ground.no_byte y p M b (defined_allowed (view t m M) x d))
+  ground (Case.no_store a h d q) = subst Grounded (sym a ∙ answer_is) (Ground.no_store h (λ M. defined_allowed (view t m M) x (d M)) q)
+  ground (Case.no_walk a h d q) = subst Grounded (sym a ∙ answer_is) (Ground.no_walk h (λ M. defined_allowed (view t m M) x (d M)) q)
 
   -- by the step that they are found to say
-  pub by_step_lem : (y : Step) → step_of (cores_of t) s ≡ y → Case t m y (by_step t m y) → Ok r.answer
+  pub by_step_lem : (y : Option Step) → step_of (cores_of t) s ≡ y → Case t m y (by_step t m y) → Grounded r.answer
   unfolding decided
-  by_step_lem y q c = ground (subst (λ (z : Step). Case t m z (by_step t m z)) (sym q) c)
+  by_step_lem y q c = ground (subst (λ (z : Option Step). Case t m z (by_step t m z)) (sym q) c)
 
 -- ---- kind by kind
 
@@ -290,24 +306,24 @@ demand2 t m s e ws bs = go (step_of (cores_of t) s) refl (step_formed (cores_of 
     n : ℕ
     n = cores_of t
 
-    by : (x : Step) → step_of (cores_of t) s ≡ x → Case t m x (by_step t m x) → Ground t m s (step t m s).answer
+    by : (x : Option Step) → step_of (cores_of t) s ≡ x → Case t m x (by_step t m x) → Ground t m s (step t m s).answer
     by = by_step_lem t m s e ws bs
 
-    go : (x : Step) → step_of (cores_of t) s ≡ x → formed (cores_of t) x ≡ true → Ground t m s (step t m s).answer
-    go (kind.Core k w_i w_r) q f = by (kind.Core k w_i w_r) q (core_case t m e ws k (ltb-true k n f) w_i w_r)
-    go (kind.TlbCreate k va) q f = by (kind.TlbCreate k va) q (create_case t m e ws k (ltb-true k n (and_left (ltb k n) _ f)) va (ltb-true va (2 ^ 20) (and_right (ltb k n) _ f)))
-    go (kind.TlbExtend k w) q f = by (kind.TlbExtend k w) q (extend_case t m e bs k (ltb-true k n f) w)
-    go (kind.TlbAccessed k w) q f = by (kind.TlbAccessed k w) q (accessed_case t m e k (ltb-true k n f) w)
-    go (kind.StoreBuffer k) q f = by (kind.StoreBuffer k) q (buffer_case t m e k (ltb-true k n f))
-    go (kind.SendIpi k) q f = by (kind.SendIpi k) q (ipi_case t m e ws k (ltb-true k n f))
-    go (kind.SendEoi k) q f = by (kind.SendEoi k) q (eoi_case t m e k (ltb-true k n f))
-    go (kind.InitCore k) q f = by (kind.InitCore k) q (init_case t m e k (ltb-true k n f))
-    go (kind.StartCore k) q f = by (kind.StartCore k) q (start_case t m e k (ltb-true k n f))
-    go (kind.Sample l) q f = by (kind.Sample l) q (sample_case t m e l (ltb-true l 24 f))
-    go (kind.Deliver l) q f = by (kind.Deliver l) q (deliver_case t m e ws l (ltb-true l 24 f))
-    go (kind.SetLine l v) q f =
-        by (kind.SetLine l v) q (line_case t m e l v (ltb-true l 24 (and_left (ltb l 24) _ f)) (ltb-true v 2 (and_right (ltb l 24) _ f)))
-    go kind.NotAStep q f = by kind.NotAStep q (Case.no_step refl refl)
+    go : (x : Option Step) → step_of (cores_of t) s ≡ x → Formed (cores_of t) x → Ground t m s (step t m s).answer
+    go (Some (ByProcessor k (Core w_i w_r))) q f = by (Some (ByProcessor k (Core w_i w_r))) q (core_case t m e ws k (ltb-true k n f) w_i w_r)
+    go (Some (ByProcessor k (TlbCreate va))) q f = by (Some (ByProcessor k (TlbCreate va))) q (create_case t m e ws k (ltb-true k n (and_left (ltb k n) _ f)) va (ltb-true va (2 ^ 20) (and_right (ltb k n) _ f)))
+    go (Some (ByProcessor k (TlbExtend w))) q f = by (Some (ByProcessor k (TlbExtend w))) q (extend_case t m e bs k (ltb-true k n f) w)
+    go (Some (ByProcessor k (TlbAccessed w))) q f = by (Some (ByProcessor k (TlbAccessed w))) q (accessed_case t m e k (ltb-true k n f) w)
+    go (Some (ByProcessor k StoreBuffer)) q f = by (Some (ByProcessor k StoreBuffer)) q (buffer_case t m e k (ltb-true k n f))
+    go (Some (ByApic (SendIpi k))) q f = by (Some (ByApic (SendIpi k))) q (ipi_case t m e ws k (ltb-true k n f))
+    go (Some (ByApic (SendEoi k))) q f = by (Some (ByApic (SendEoi k))) q (eoi_case t m e k (ltb-true k n f))
+    go (Some (ByApic (InitCore k))) q f = by (Some (ByApic (InitCore k))) q (init_case t m e k (ltb-true k n f))
+    go (Some (ByApic (StartCore k))) q f = by (Some (ByApic (StartCore k))) q (start_case t m e k (ltb-true k n f))
+    go (Some (ByApic (Sample l))) q f = by (Some (ByApic (Sample l))) q (sample_case t m e l (ltb-true l 24 f))
+    go (Some (ByApic (Deliver l))) q f = by (Some (ByApic (Deliver l))) q (deliver_case t m e ws l (ltb-true l 24 f))
+    go (Some (ByApic (SetLine l v))) q f =
+        by (Some (ByApic (SetLine l v))) q (line_case t m e l v (ltb-true l 24 (and_left (ltb l 24) _ f)) (ltb-true v 2 (and_right (ltb l 24) _ f)))
+    go None q f = by None q (Case.no_step refl refl)
 
 -- ---- what δ allows is accepted, or refused 7 to 10
 
@@ -318,7 +334,7 @@ unhindered t m s e ws bs M A = go (demand2 t m s e ws bs)
     never : {B : Type 0} → outcome t m (step_of (cores_of t) s) M ≡ report.none → B
     never q = absurd (let p = A.is_next in let z : ◌≡◌ {A = ℕ} 0 1 = cc in omega arith)
 
-    go : {r : Answer} → Ground t m s r → limited r ≡ true
+    go : {r : Result Answer Refusal} → Ground t m s r → limited r ≡ true
     go (Ground.done N) = refl
     go (Ground.interrupt l N) = refl
     go (Ground.no_step q) = never (ap (report.δ (view t m M)) q)

@@ -1,6 +1,6 @@
 -- Demand 2 for the steps on a line: ioapic-sample, ioapic-deliver and set line.
 -- Assumes nothing.
-use Rattle.std.specs.Prelude.{if◌then◌else◌}
+use Rattle.std.specs.Prelude.{if◌then◌else◌, Option, Some}
 use mathlib.Core.Path.{◌≡◌, refl, sym, ◌∙◌, ap, ap₂, subst}
 use mathlib.Core.Bool.{Bool, true, false, not, ◌&&◌}
 use mathlib.Core.List.{List}
@@ -28,10 +28,11 @@ use Rattle.ioapic.specs.Bus.{deliver}
 use Rattle.ioapic.proofs.Blocks.{block_words}
 use Rattle.ioapic.proofs.Steps.{deliver_header, deliver_block}
 use Rattle.steps.specs.declared.Step.{Step}
-use Rattle.steps.specs.declared.Step.TheVariants as kind
+use Rattle.steps.specs.declared.Step.TheVariants.{ByApic}
+use Rattle.steps.specs.declared.ApicStep.TheVariants as kind
 use Rattle.machine.specs.declared.action.Action.TheVariants as action
-use Rattle.machine.specs.Actions.{tables_after, memory_after}
-use Rattle.machine.specs.Decide.{if_allowed, by_step}
+use Rattle.machine.specs.Actions.{Acts, tables_after, memory_after}
+use Rattle.machine.specs.Decide.{if_allowed, by_apic, by_action, by_step}
 use Rattle.machine.proofs.Fitting.{header_words}
 use Rattle.report.specs.Configuration.{Apic, IoApic, Configuration, upd, with_p, with_apic, with_irq, with_ioapic, with_redirect}
 use Rattle.report.specs.Components.{bytes, ID, ΣApic, δapic}
@@ -54,8 +55,8 @@ module _ (t : List ℕ) (i w : ℕ) (h : i < 32) where
 -- ---- set line
 
 module _ (t m : List ℕ) (e : sound t (length m) ≡ true) (l v : ℕ) (h : l < 24) (hv : v < 2) where
-  abbrev x₁ : Step
-  x₁ = kind.SetLine l v
+  abbrev x₁ : Option Step
+  x₁ = Some (ByApic (kind.SetLine l v))
 
   abbrev lined : (ℕ → ℕ) → Configuration
   lined M = with_irq (view t m M) (upd (is_set (lines_of t)) l (eqb v 1))
@@ -71,7 +72,7 @@ module _ (t m : List ℕ) (e : sound t (length m) ≡ true) (l v : ℕ) (h : l <
       (λ d. ap (λ (n : ℕ). eqb n 1) (sym (bit_other (lines_of t) l v hv j d)))
 
   pub line_case : Case t m x₁ (by_step t m x₁)
-  unfolding by_step misses tables_after memory_after view
+  unfolding by_step by_apic misses tables_after memory_after view
   line_case =
       let w : ℕ = with_bit (lines_of t) l v in
       let s : get_or (set t 3 w) 3 0 ≡ w = get_or-set_same t 3 w 0 (omega (arith, header_words t (length m) e)) in
@@ -90,8 +91,8 @@ module _ (t m : List ℕ) (e : sound t (length m) ≡ true) (l v : ℕ) (h : l <
 -- ---- ioapic-sample
 
 module _ (t m : List ℕ) (e : sound t (length m) ≡ true) (l : ℕ) (h : l < 24) where
-  abbrev x₂ : Step
-  x₂ = kind.Sample l
+  abbrev x₂ : Option Step
+  x₂ = Some (ByApic (kind.Sample l))
 
   -- the I/O APIC with another entry l
   abbrev with_entry_lem : ℕ → IoApic
@@ -107,7 +108,7 @@ module _ (t m : List ℕ) (e : sound t (length m) ≡ true) (l : ℕ) (h : l < 2
       ap₂ (λ (y z : Bool). is_set (lines_of t) l && y && z) (sym (zero_not_one (bit (entry t l) 16) (bit_lt (entry t l) 16))) (sym (zero_not_one (bit (entry t l) 14) (bit_lt (entry t l) 14))) ∙ q in
       rw (lt-ltb l 24 h, redirect_at t l h, r)
 
-  sample_same : (M : ℕ → ℕ) → Same (sample M) (view (tables_after (action.Sample l) t) (memory_after (action.Sample l) m) M)
+  sample_same : (M : ℕ → ℕ) → Same (sample M) (view (tables_after (Acts (action.Sample l)) t) (memory_after (Acts (action.Sample l)) m) M)
   unfolding tables_after memory_after view sampled
   sample_same M =
       let i : ℕ = 6 + l in
@@ -118,10 +119,10 @@ module _ (t m : List ℕ) (e : sound t (length m) ≡ true) (l : ℕ) (h : l < 2
       (entry_same (ioapic_of t) t l w (io_refl (ioapic_of t)) (header_words t (length m) e) h)
 
   pub sample_case : Case t m x₂ (by_step t m x₂)
-  unfolding by_step misses
+  unfolding by_step by_apic misses
   sample_case = go (may_sample t l) refl
     where
-      go : (g : Bool) → may_sample t l ≡ g → Case t m x₂ (if_allowed g (action.Sample l))
+      go : (g : Bool) → may_sample t l ≡ g → Case t m x₂ (by_action (if_allowed g (action.Sample l)))
       go true q = Case.done refl (adds_none t m _ refl) (λ M y. refl) (λ M. record { to = sample M; is_next = outcome₂ M true q; agrees = sample_same M })
       go false q = Case.undefined refl (is_a_step _ refl) (λ M. outcome₂ M false q)
 
@@ -149,8 +150,8 @@ module _ (b : List ℕ) (ws : Words b) where
 -- ---- ioapic-deliver
 
 module _ (t m : List ℕ) (e : sound t (length m) ≡ true) (ws : Words t) (l : ℕ) (h : l < 24) where
-  abbrev x₃ : Step
-  x₃ = kind.Deliver l
+  abbrev x₃ : Option Step
+  x₃ = Some (ByApic (kind.Deliver l))
 
   abbrev n : ℕ
   n = cores_of t
@@ -194,7 +195,7 @@ module _ (t m : List ℕ) (e : sound t (length m) ≡ true) (ws : Words t) (l : 
       ap running_of (deliver_block n t (header t (length m) e).long l h j g)
       ∙ (kept_if Passive (eqb (id_of (block t j)) (dest en)) (kept_vector (block t j) irr (vect en) 1 (omega arith) (omega arith) (omega arith) (omega arith)) (kept_all Passive (block t j))).same 67 (inl (omega arith))
 
-  deliver_same : (M : ℕ → ℕ) → Same (delivers M en) (view (tables_after (action.Deliver l) t) (memory_after (action.Deliver l) m) M)
+  deliver_same : (M : ℕ → ℕ) → Same (delivers M en) (view (tables_after (Acts (action.Deliver l)) t) (memory_after (Acts (action.Deliver l)) m) M)
   unfolding tables_after memory_after view handed
   deliver_same M =
       let i : ℕ = 6 + l in
@@ -207,9 +208,9 @@ module _ (t m : List ℕ) (e : sound t (length m) ≡ true) (ws : Words t) (l : 
       (io_then (entry_same (ioapic_of t) t l w (io_refl (ioapic_of t)) (header_words t (length m) e) h) (io_kept (set t i w) u (λ x p q. H x (omega arith))))
 
   pub deliver_case : Case t m x₃ (by_step t m x₃)
-  unfolding by_step misses
+  unfolding by_step by_apic misses
   deliver_case = go (may_deliver t l) refl
     where
-      go : (g : Bool) → may_deliver t l ≡ g → Case t m x₃ (if_allowed g (action.Deliver l))
+      go : (g : Bool) → may_deliver t l ≡ g → Case t m x₃ (by_action (if_allowed g (action.Deliver l)))
       go true q = Case.done refl (adds_none t m _ refl) (λ M y. refl) (λ M. record { to = delivers M en; is_next = outcome₃ M true q; agrees = deliver_same M })
       go false q = Case.undefined refl (is_a_step _ refl) (λ M. outcome₃ M false q)

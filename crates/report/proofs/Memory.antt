@@ -1,6 +1,6 @@
 -- Memory as the report has it, total, against the bytes that the machine has: reads, writes, entries and faults.
 -- Assumes nothing.
-use Rattle.std.specs.Prelude.{if◌then◌else◌}
+use Rattle.std.specs.Prelude.{if◌then◌else◌, Option, Some, None}
 use mathlib.Core.Path.{◌≡◌, refl, sym, ◌∙◌, ap}
 use mathlib.Core.Logic.{⊎_elim}
 use mathlib.Core.Bool.{Bool, true, false, not, ◌&&◌, ◌||◌}
@@ -23,15 +23,10 @@ use Rattle.layout.specs.Layout.{ports}
 use Rattle.records.specs.declared.Store.{Store}
 use Rattle.records.specs.Contents.{local_port, io_port, there, all_there}
 use Rattle.tlb.specs.declared.Request.{Request}
-use Rattle.tlb.specs.declared.Entry.TheVariants.{Word, Missing}
 use Rattle.tlb.specs.declared.Faulting.{Faulting}
 use Rattle.tlb.specs.declared.Faulting.TheVariants.{Faults, Passes, Undecided}
 use Rattle.tlb.specs.Walks.{complete, hit, ptea, entry_at, entry_fault, fault_by, wext_fault}
 use Rattle.tlb.proofs.Fields.{ptea_aligned, ptea_low}
-use Rattle.store_buffer.specs.declared.Read.{Read}
-use Rattle.store_buffer.specs.declared.Read.TheVariants.{There, Nowhere}
-use Rattle.store_buffer.specs.declared.Hit.{Hit}
-use Rattle.store_buffer.specs.declared.Hit.TheVariants.{At, Miss}
 use Rattle.store_buffer.specs.Buffer.{sbhit, sbv, maxsbhit, forwarded_by}
 use Rattle.store_buffer.specs.System.{Ports, ports_of, memory_byte, join, reads, apicadr, ioapicadr, apic_byte, ioapic_byte, beneath, ms_of, ms}
 use Rattle.store_buffer.proofs.Access.{never, memory_there}
@@ -45,17 +40,17 @@ use Rattle.report.specs.View.{memory_of, apic_of, ioapic_of}
 -- ---- reads
 
 -- a read of d bytes is the report's where each byte is
-pub reads_bytes : (f : ℕ → Read) (g : ℕ → ℕ) → ((x v : ℕ) → f x ≡ There v → g x ≡ v) → (d a v : ℕ) → reads d f a ≡ There v → bytes d g a ≡ v
+pub reads_bytes : (f : ℕ → Option ℕ) (g : ℕ → ℕ) → ((x v : ℕ) → f x ≡ Some v → g x ≡ v) → (d a v : ℕ) → reads d f a ≡ Some v → bytes d g a ≡ v
 unfolding reads bytes
 reads_bytes f g h zero a v e = let q : 0 ≡ v = cc in q
 reads_bytes f g h (suc d) a v e = go (f a) (reads d f (plus 32 a 1)) refl (reads_bytes f g h d (plus 32 a 1)) e
   where
-    go : (r s : Read) → f a ≡ r → ((y : ℕ) → s ≡ There y → bytes d g (plus 32 a 1) ≡ y) → join r s ≡ There v → g a + 256 * bytes d g (plus 32 a 1) ≡ v
-    go (There x) (There y) p q k =
+    go : (r s : Option ℕ) → f a ≡ r → ((y : ℕ) → s ≡ Some y → bytes d g (plus 32 a 1) ≡ y) → join r s ≡ Some v → g a + 256 * bytes d g (plus 32 a 1) ≡ v
+    go (Some x) (Some y) p q k =
         let z : x + 256 * y ≡ v = cc in
         ap (λ (n : ℕ). n + 256 * bytes d g (plus 32 a 1)) (h a x p) ∙ (ap (λ (n : ℕ). x + 256 * n) (q y refl) ∙ z)
-    go (There x) Nowhere p q k = never k
-    go Nowhere s p q k = never k
+    go (Some x) None p q k = never k
+    go None s p q k = never k
 
 -- ---- memory, with M beyond it
 
@@ -68,16 +63,16 @@ module _ (m : List ℕ) (M : ℕ → ℕ) where
   unfolding memory_of
   memory_out x h = rw (le-ltb x (length m) h)
 
-  pub memory_byte_lem : (x v : ℕ) → memory_byte m x ≡ There v → memory_of m M x ≡ v
+  pub memory_byte_lem : (x v : ℕ) → memory_byte m x ≡ Some v → memory_of m M x ≡ v
   unfolding memory_of
   memory_byte_lem x v e = go (ltb x (length m)) e
     where
-      go : (t : Bool) → (if t then There (get_or m x 0) else Nowhere) ≡ There v → (if t then get_or m x 0 else M x) ≡ v
+      go : (t : Bool) → (if t then Some (get_or m x 0) else None) ≡ Some v → (if t then get_or m x 0 else M x) ≡ v
       go true e = let z : get_or m x 0 ≡ v = cc in z
       go false e = never e
 
   -- the same number for every M
-  pub memory_reads : (d a v : ℕ) → reads d (memory_byte m) a ≡ There v → bytes d (memory_of m M) a ≡ v
+  pub memory_reads : (d a v : ℕ) → reads d (memory_byte m) a ≡ Some v → bytes d (memory_of m M) a ≡ v
   memory_reads = reads_bytes (memory_byte m) (memory_of m M) memory_byte_lem
 
   pub memory_bytes : (d a : ℕ) → a + d ≤ 2 ^ 32 → a + d ≤ length m → bytes d (memory_of m M) a ≡ bytes_at d m a
@@ -212,7 +207,7 @@ module _ (m : List ℕ) (whole : length m % 4 ≡ 0) (trq : Request) (w : Walk) 
   judges = go (consulted trq w) refl (leb (ptea w + 4) (length m)) refl (wext_fault (bytes_at 4 m (ptea w)) trq.r) refl
     where
       go : (t : Bool) → consulted trq w ≡ t → (u : Bool) → leb (ptea w + 4) (length m) ≡ u → (b : Bool) → wext_fault (bytes_at 4 m (ptea w)) trq.r ≡ b →
-          Judges (if t then entry_fault trq.r (if u then Word (bytes_at 4 m (ptea w)) else Missing) else Passes)
+          Judges (if t then entry_fault trq.r (if u then Some (bytes_at 4 m (ptea w)) else None) else Passes)
       go false p u q b r = passes (λ M. fault_unasked (memory_of m M) trq w p) (λ e. absurd (true_false (sym e ∙ p)))
       go true p true q true r = rw r (faults (λ M. by_entry M p (leb-true _ _ q) true r) p (leb-true _ _ q))
       go true p true q false r = rw r (passes (λ M. by_entry M p (leb-true _ _ q) false r) (λ e. leb-true _ _ q))
@@ -235,11 +230,11 @@ module _ (b t m : List ℕ) (sb : List Store) (x : ℕ) where
   p = ports_of b (ioregsel_of t) (iowin_of t)
 
   -- a byte that is seen is the report's
-  pub seen_byte : (M : ℕ → ℕ) (v : ℕ) → ms sb p m x ≡ There v → report.ms (ioapic_of t) (apic_of b) sb (memory_of m M) x ≡ v
+  pub seen_byte : (M : ℕ → ℕ) (v : ℕ) → ms sb p m x ≡ Some v → report.ms (ioapic_of t) (apic_of b) sb (memory_of m M) x ≡ v
   unfolding report.ms ms_of beneath apic_of ioapic_of
   seen_byte M v e = go (sbhit sb x) (local_port x) (io_port x) e
     where
-      go : (s l i : Bool) → (if s then sbv sb x else if l then There (apic_byte p (apicadr x)) else if i then There (ioapic_byte p (ioapicadr x)) else memory_byte m x) ≡ There v →
+      go : (s l i : Bool) → (if s then sbv sb x else if l then Some (apic_byte p (apicadr x)) else if i then Some (ioapic_byte p (ioapicadr x)) else memory_byte m x) ≡ Some v →
           (if s then the_byte (sbv sb x) else if l then port_byte b (apicadr x) else if i then ioports (ioapic_of t) (ioapicadr x) else memory_of m M x) ≡ v
       go true l i e = ap the_byte e
       go false true i e = sym (local_byte b (ioregsel_of t) (iowin_of t) (apicadr x) (omega arith)) ∙ ap the_byte e
@@ -247,25 +242,25 @@ module _ (b t m : List ℕ) (sb : List Store) (x : ℕ) where
       go false false false e = memory_byte_lem m M x v e
 
   -- one that is not is neither pending nor there
-  pub unseen_byte : ms sb p m x ≡ Nowhere → (sbhit sb x ≡ false) × (there (length m) x ≡ false)
+  pub unseen_byte : ms sb p m x ≡ None → (sbhit sb x ≡ false) × (there (length m) x ≡ false)
   unfolding ms_of beneath sbv
   unseen_byte e = go (maxsbhit sb x) (sbhit sb x) (local_port x) (io_port x) (ltb x (length m)) refl refl refl refl refl e
     where
-      go : (h : Hit) (s l i n : Bool) → maxsbhit sb x ≡ h → sbhit sb x ≡ s → local_port x ≡ l → io_port x ≡ i → ltb x (length m) ≡ n →
-          (if s then forwarded_by sb x h else if l then There (apic_byte p (apicadr x)) else if i then There (ioapic_byte p (ioapicadr x)) else (if n then There (get_or m x 0) else Nowhere)) ≡ Nowhere →
+      go : (h : Option ℕ) (s l i n : Bool) → maxsbhit sb x ≡ h → sbhit sb x ≡ s → local_port x ≡ l → io_port x ≡ i → ltb x (length m) ≡ n →
+          (if s then forwarded_by sb x h else if l then Some (apic_byte p (apicadr x)) else if i then Some (ioapic_byte p (ioapicadr x)) else (if n then Some (get_or m x 0) else None)) ≡ None →
           (sbhit sb x ≡ false) × (there (length m) x ≡ false)
-      go (At j) true l i n a b c d f k = never (sym k)
-      go Miss true l i n a b c d f k = absurd (true_false (sym b ∙ none_hits sb x a))
+      go (Some j) true l i n a b c d f k = never (sym k)
+      go None true l i n a b c d f k = absurd (true_false (sym b ∙ none_hits sb x a))
       go h false true i n a b c d f k = never (sym k)
       go h false false true n a b c d f k = never (sym k)
       go h false false false true a b c d f k = never (sym k)
       go h false false false false a b c d f k = (b, rw (f, d, c) refl)
 
-  pub seen_there : (v : ℕ) → ms sb p m x ≡ There v → (not (sbhit sb x) && not (there (length m) x)) ≡ false
+  pub seen_there : (v : ℕ) → ms sb p m x ≡ Some v → (not (sbhit sb x) && not (there (length m) x)) ≡ false
   unfolding ms_of beneath
   seen_there v e = go (sbhit sb x) (local_port x) (io_port x) (ltb x (length m)) e
     where
-      go : (s l i n : Bool) → (if s then sbv sb x else if l then There (apic_byte p (apicadr x)) else if i then There (ioapic_byte p (ioapicadr x)) else (if n then There (get_or m x 0) else Nowhere)) ≡ There v →
+      go : (s l i n : Bool) → (if s then sbv sb x else if l then Some (apic_byte p (apicadr x)) else if i then Some (ioapic_byte p (ioapicadr x)) else (if n then Some (get_or m x 0) else None)) ≡ Some v →
           (not s && not (n || (i || l))) ≡ false
       go true l i n e = refl
       go false true true true e = refl

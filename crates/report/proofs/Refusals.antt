@@ -1,7 +1,10 @@
--- Demand 1: step answers what 01 lists, 4 on tables that are not sound and on no others; a refusal leaves memory and every word of the tables but its
--- count; words stay words, bytes bytes, and sound tables sound.
+-- Demand 1: step answers what 01 lists, 4 on tables that are not sound and on no others; a refusal leaves memory and
+-- every word of the tables but its count; words stay words, bytes bytes, and sound tables sound.
 -- Assumes nothing.
-use Rattle.std.specs.Prelude.{if◌then◌else◌}
+use Rattle.std.specs.Prelude.{if◌then◌else◌, Result, Ok, Err, is_ok}
+use Rattle.refusals.specs.declared.Refusal.{Refusal}
+use Rattle.refusals.specs.declared.Refusal.TheVariants.{Unsound}
+use Rattle.refusals.specs.Numbers.{number}
 use mathlib.Core.Path.{◌≡◌, refl, sym, ◌∙◌, ap}
 use mathlib.Core.Bool.{Bool, true, false}
 use mathlib.Core.List.{List}
@@ -16,32 +19,43 @@ use Rattle.word.proofs.Truth.{and_left, and_right, and_both}
 use Rattle.tables.specs.Views.{cores_of}
 use Rattle.tables.specs.Sound.{sound}
 use Rattle.steps.specs.declared.Answer.{Answer}
-use Rattle.steps.specs.declared.Answer.TheVariants.{Done, Interrupt, Refused}
-use Rattle.machine.specs.Actions.{answer_of}
+use Rattle.steps.specs.declared.Answer.TheVariants.{Done, Interrupt}
+use Rattle.machine.specs.Actions.{Effect, answer_of}
 use Rattle.machine.specs.Decide.{decided}
 use Rattle.steps.specs.Form.{count_at}
-use Rattle.machine.specs.Step.{Stepped, one_more, counted, taken, step}
+use Rattle.machine.specs.Step.{Stepped, one_more, counted, after, taken, step}
 use Rattle.machine.proofs.Fitting.{count_there}
 use Rattle.machine.proofs.Keeping.{refused_count, step_sound}
 use Rattle.machine.proofs.Words.{step_words, step_bytes}
-use Rattle.machine.proofs.Taking.{taken_refused, not_sound, is_sound}
+use Rattle.machine.proofs.Taking.{not_sound, is_sound}
 use Rattle.machine.proofs.Levels as levels
 use Rattle.machine.proofs.Answers.{after_answer, taken_known}
 use Rattle.report.specs.Demands.{count_after, Left, known, Demand1}
 
 -- what is answered on sound tables is one of the answers, and no refusal 4
-weaker : (x : Answer) → levels.known x ≡ true → known x ≡ true
+weaker : (x : Result Answer Refusal) → levels.known x ≡ true → known x ≡ true
 unfolding levels.known
-weaker Done e = refl
-weaker (Interrupt l) e = e
-weaker (Refused n) e =
-    and_both (leb 4 n) _ (le-leb 4 n (omega (arith, leb-true 5 n (and_left (leb 5 n) _ e)))) (and_right (leb 5 n) _ e)
+weaker (Ok Done) e = refl
+weaker (Ok (Interrupt l)) e = e
+weaker (Err r) e =
+    and_both (leb 4 (number r)) _ (le-leb 4 (number r) (omega (arith, leb-true 5 (number r) (and_left (leb 5 (number r)) _ e)))) (and_right (leb 5 (number r)) _ e)
 
-not_four : (n : ℕ) → levels.known (Refused n) ≡ true → eqb n 4 ≡ false
+not_four : (r : Refusal) → levels.known (Err r) ≡ true → eqb (number r) 4 ≡ false
 unfolding levels.known
-not_four n e = ne_eqb n 4 (λ q. omega (arith, leb-true 5 n (and_left (leb 5 n) _ e)))
+not_four r e = ne_eqb (number r) 4 (λ q. omega (arith, leb-true 5 (number r) (and_left (leb 5 (number r)) _ e)))
+
+-- the number of a refusal among the answers
+abbrev number_of : Result Answer Refusal → ℕ
+number_of (Ok a) = 0
+number_of (Err r) = number r
 
 module _ (t m s : List ℕ) where
+  -- a refusal is counted
+  refused_counts : (d : Result Effect Refusal) {r : Refusal} → answer_of d ≡ Err r → (after s d t m).tables ≡ counted s t
+  unfolding after
+  refused_counts (Ok y) q = absurd (true_false (ap is_ok q))
+  refused_counts (Err y) q = refl
+
   answers : known (step t m s).answer ≡ true
   answers = go (sound t (length m)) refl
     where
@@ -49,7 +63,7 @@ module _ (t m s : List ℕ) where
       go true e = ap (λ (r : Stepped). known r.answer) (sym (is_sound t m s e)) ∙ weaker _ (taken_known t m s)
       go false e = ap known (sym (not_sound t m s e).0)
 
-  module _ (n : ℕ) (a : (step t m s).answer ≡ Refused n) where
+  module _ (n : Refusal) (a : (step t m s).answer ≡ Err n) where
     abbrev i : ℕ
     i = count_at (cores_of t) s
 
@@ -65,35 +79,34 @@ module _ (t m s : List ℕ) where
         go true = get_or-set_same t i (c t + 1) 0 (count_there t (length m) e s)
         go false = refl
 
-    count : c (step t m s).tables ≡ count_after n (c t)
+    count : c (step t m s).tables ≡ count_after (number n) (c t)
     unfolding taken
     count = go (sound t (length m)) refl
       where
-        go : (b : Bool) → sound t (length m) ≡ b → c (step t m s).tables ≡ count_after n (c t)
+        go : (b : Bool) → sound t (length m) ≡ b → c (step t m s).tables ≡ count_after (number n) (c t)
         go true e =
-            let p : (taken t m s).answer ≡ Refused n = ap (λ (r : Stepped). r.answer) (is_sound t m s e) ∙ a in
-            let q : answer_of (decided t m s) ≡ Refused n = sym (after_answer s (answer_of (decided t m s)) (decided t m s) t m) ∙ p in
+            let p : (taken t m s).answer ≡ Err n = ap (λ (r : Stepped). r.answer) (is_sound t m s e) ∙ a in
             ap (λ (r : Stepped). c r.tables) (sym (is_sound t m s e))
-            ∙ ap c (sym (taken_refused t m s n (sym q)).1)
+            ∙ ap c (refused_counts (decided t m s) (sym (after_answer s (decided t m s) t m) ∙ p))
             ∙ counts e
             ∙ ap (λ (b : Bool). if b then c t else if ltb (c t) (2 ^ 32 - 1) then c t + 1 else c t)
             (sym (not_four n (ap levels.known (sym p) ∙ taken_known t m s)))
         go false e =
-            let q : n ≡ 4 = let d : Refused 4 ≡ Refused n = (not_sound t m s e).0 ∙ a in cc in
+            let q : number n ≡ 4 = let d : Err Unsound ≡ Err n = (not_sound t m s e).0 ∙ a in sym (ap number_of d) in
             ap c (sym (not_sound t m s e).1)
-            ∙ ap (λ (b : Bool). if b then c t else if ltb (c t) (2 ^ 32 - 1) then c t + 1 else c t) (sym (eq-eqb n 4 q))
+            ∙ ap (λ (b : Bool). if b then c t else if ltb (c t) (2 ^ 32 - 1) then c t + 1 else c t) (sym (eq-eqb (number n) 4 q))
 
-    left : Left t m s n (step t m s)
+    left : Left t m s (number n) (step t m s)
     left =
         let R = refused_count t m s n a in
         record { memory = R.0; long = R.1.long; words = R.1.same; count = count }
 
-  four : sound t (length m) ≡ false → step t m s ≡ record { answer = Refused 4; tables = t; memory = m }
+  four : sound t (length m) ≡ false → step t m s ≡ record { answer = Err Unsound; tables = t; memory = m }
   unfolding step
   four e = rw e refl
 
-  no_four : sound t (length m) ≡ true → (step t m s).answer ≡ Refused 4 → ⊥
-  no_four e a = true_false (not_four 4 (ap levels.known (sym (ap (λ (r : Stepped). r.answer) (is_sound t m s e) ∙ a)) ∙ taken_known t m s))
+  no_four : sound t (length m) ≡ true → (step t m s).answer ≡ Err Unsound → ⊥
+  no_four e a = true_false (not_four Unsound (ap levels.known (sym (ap (λ (r : Stepped). r.answer) (is_sound t m s e) ∙ a)) ∙ taken_known t m s))
 
 pub demand1 : Demand1
 demand1 t m s =

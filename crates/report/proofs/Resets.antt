@@ -1,6 +1,6 @@
 -- Demand 2 for apic-initCore and apic-startCore.
 -- Assumes nothing.
-use Rattle.std.specs.Prelude.{if◌then◌else◌}
+use Rattle.std.specs.Prelude.{if◌then◌else◌, Option, Some}
 use mathlib.Core.Path.{◌≡◌, refl, sym, ◌∙◌, ap}
 use mathlib.Core.Bool.{Bool, true, false, not, ◌&&◌}
 use mathlib.Core.List.{List}
@@ -25,10 +25,11 @@ use Rattle.tables.proofs.Lift.{core_long, core_sound}
 use Rattle.apic.specs.Active.{may_init, may_start, init_core, start_core}
 use Rattle.apic.proofs.Kept.{Kept, Reset, kept_init_core, kept_start_core}
 use Rattle.steps.specs.declared.Step.{Step}
-use Rattle.steps.specs.declared.Step.TheVariants as kind
+use Rattle.steps.specs.declared.Step.TheVariants.{ByApic}
+use Rattle.steps.specs.declared.ApicStep.TheVariants as kind
 use Rattle.machine.specs.declared.action.Action.TheVariants as action
-use Rattle.machine.specs.Actions.{tables_after, memory_after}
-use Rattle.machine.specs.Decide.{if_allowed, by_step}
+use Rattle.machine.specs.Actions.{Acts, tables_after, memory_after}
+use Rattle.machine.specs.Decide.{if_allowed, by_apic, by_action, by_step}
 use Rattle.report.specs.Configuration.{Apic, Configuration, with_apic, with_core, with_init, with_sipi}
 use Rattle.report.specs.Delta as report
 use Rattle.report.specs.View.{apic_of, processor_of, view, SameApic, SameProcessor, Same}
@@ -80,8 +81,8 @@ module _ (t m : List ℕ) (e : sound t (length m) ≡ true) (k : ℕ) (h : k < c
   long : length b ≡ 256
   long = core_long t (length m) e k h
 
-  abbrev x₁ : Step
-  x₁ = kind.InitCore k
+  abbrev x₁ : Option Step
+  x₁ = Some (ByApic (kind.InitCore k))
 
   abbrev inited : (ℕ → ℕ) → Configuration
   inited M = report.reset (view t m M) k false 0 (set (set (report.cᵢ (view t m M) k).spr at.mode 0) at.eca 0) (with_init (report.apicᵢ (view t m M) k) false)
@@ -125,7 +126,7 @@ module _ (t m : List ℕ) (e : sound t (length m) ≡ true) (k : ℕ) (h : k < c
       ∙ run_set (set (set b 64 0) 39 0) 32 32 2 0 (omega arith)
       ∙ ap (λ (l : List ℕ). set l 2 0) (run_set (set b 64 0) 32 32 7 0 (omega arith) ∙ ap (λ (l : List ℕ). set l 7 0) (set_run b 64 0 32 32 (inr (omega arith)))))
 
-  init_same : (M : ℕ → ℕ) → Same (inited M) (view (tables_after (action.InitCore k) t) (memory_after (action.InitCore k) m) M)
+  init_same : (M : ℕ → ℕ) → Same (inited M) (view (tables_after (Acts (action.InitCore k)) t) (memory_after (Acts (action.InitCore k)) m) M)
   unfolding tables_after memory_after view processor_of registers_of apic_of
   init_same M =
       let K = kept_init_core b in
@@ -138,17 +139,17 @@ module _ (t m : List ℕ) (e : sound t (length m) ≡ true) (k : ℕ) (h : k < c
       (sym (ap (λ (n : ℕ). eqb n 1) init_running))
 
   pub init_case : Case t m x₁ (by_step t m x₁)
-  unfolding by_step misses
+  unfolding by_step by_apic misses
   init_case = go (may_init b) refl
     where
-      go : (g : Bool) → may_init b ≡ g → Case t m x₁ (if_allowed g (action.InitCore k))
+      go : (g : Bool) → may_init b ≡ g → Case t m x₁ (by_action (if_allowed g (action.InitCore k)))
       go true q = Case.done refl (adds_none t m _ refl) (λ M y. refl) (λ M. record { to = inited M; is_next = outcome₁ M true q; agrees = init_same M })
       go false q = Case.undefined refl (is_a_step _ refl) (λ M. outcome₁ M false q)
 
   -- ---- apic-startCore
 
-  abbrev x₂ : Step
-  x₂ = kind.StartCore k
+  abbrev x₂ : Option Step
+  x₂ = Some (ByApic (kind.StartCore k))
 
   abbrev started : (ℕ → ℕ) → Configuration
   started M =
@@ -196,7 +197,7 @@ module _ (t m : List ℕ) (e : sound t (length m) ≡ true) (k : ℕ) (h : k < c
       (set_run (set (set b 64 entry) 67 1) 112 0 32 32 (inr (omega arith))
       ∙ set_run (set b 64 entry) 67 1 32 32 (inr (omega arith)) ∙ set_run b 64 entry 32 32 (inr (omega arith)))
 
-  start_same : (M : ℕ → ℕ) → Same (started M) (view (tables_after (action.StartCore k) t) (memory_after (action.StartCore k) m) M)
+  start_same : (M : ℕ → ℕ) → Same (started M) (view (tables_after (Acts (action.StartCore k)) t) (memory_after (Acts (action.StartCore k)) m) M)
   unfolding tables_after memory_after view processor_of registers_of apic_of
   start_same M =
       let K = kept_start_core b in
@@ -211,9 +212,9 @@ module _ (t m : List ℕ) (e : sound t (length m) ≡ true) (k : ℕ) (h : k < c
       (sym (ap (λ (n : ℕ). eqb n 1) start_running))
 
   pub start_case : Case t m x₂ (by_step t m x₂)
-  unfolding by_step misses
+  unfolding by_step by_apic misses
   start_case = go (may_start b) refl
     where
-      go : (g : Bool) → may_start b ≡ g → Case t m x₂ (if_allowed g (action.StartCore k))
+      go : (g : Bool) → may_start b ≡ g → Case t m x₂ (by_action (if_allowed g (action.StartCore k)))
       go true q = Case.done refl (adds_none t m _ refl) (λ M y. refl) (λ M. record { to = started M; is_next = outcome₂ M true q; agrees = start_same M })
       go false q = Case.undefined refl (is_a_step _ refl) (λ M. outcome₂ M false q)

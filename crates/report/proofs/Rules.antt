@@ -1,4 +1,5 @@
--- The two rules of overflow, the table's and the trade's: where they part, and what that is to the causes of a core's step and to what takes effect.
+-- The two rules of overflow, the table's and the trade's: where they part, and what that is to the causes of a core's
+-- step and to what takes effect.
 -- Assumes nothing.
 use Rattle.std.specs.Prelude.{if◌then◌else◌}
 use mathlib.Core.Path.{◌≡◌, refl, sym, ◌∙◌, ap, subst}

@@ -1,6 +1,8 @@
 -- Demand 2 for the TLB's own steps: tlb-create, tlb-extend and tlb-set-accessed.
 -- Assumes nothing.
-use Rattle.std.specs.Prelude.{if◌then◌else◌}
+use Rattle.std.specs.Prelude.{if◌then◌else◌, Some, None, Option, Result, Ok, Err}
+use Rattle.refusals.specs.declared.Refusal.{Refusal}
+use Rattle.refusals.specs.declared.Refusal.TheVariants.{NoNextState, WalksFull, NoFreeRecord}
 use mathlib.Core.Path.{◌≡◌, refl, sym, ◌∙◌, ap, ap₂, subst}
 use mathlib.Core.Bool.{Bool, true, false, not, ◌&&◌, ◌||◌}
 use mathlib.Core.List.{List, ◌∷◌}
@@ -21,9 +23,8 @@ use Rattle.tables.specs.Views.{cores_of, user_mode, runs, asid_of}
 use Rattle.tables.specs.Sound.{sound}
 use Rattle.tables.proofs.Lift.{core_long, core_sound}
 use Rattle.tables.proofs.Steps.{block_linked, block_few_stores, block_few_walks}
-use Rattle.tlb.specs.declared.Entry.TheVariants.{Word, Missing}
-use Rattle.tlb.specs.declared.Decision.{Decision}
-use Rattle.tlb.specs.declared.Decision.TheVariants as tlb
+use Rattle.tlb.specs.declared.Change.{Change}
+use Rattle.tlb.specs.declared.Change.TheVariants as tlb
 use Rattle.tlb.specs.Walks.{base_address, pte_a, pte_p, ptea, entry_at, walk_asid, complete, winit, wext, wext_fault, suffices, set_d}
 use Rattle.tables.proofs.Shown.{special_at}
 use Rattle.tlb.specs.Steps.{origin_of, extendable, tlb_create, on_extend, tlb_extend, on_accessed, tlb_accessed}
@@ -32,22 +33,22 @@ use Rattle.word.proofs.Words.{Words}
 use Rattle.word.proofs.Truth.{and_left, and_right, or_turn, and_turn}
 use Rattle.ioapic.proofs.Blocks.{block_words}
 use Rattle.steps.specs.declared.Step.{Step}
-use Rattle.steps.specs.declared.Step.TheVariants as kind
+use Rattle.steps.specs.declared.Step.TheVariants.{ByProcessor}
+use Rattle.steps.specs.declared.ProcessorStep.TheVariants.{TlbCreate, TlbExtend, TlbAccessed}
 use Rattle.cores.specs.declared.BufferChange.{BufferChange}
 use Rattle.cores.specs.declared.WalkChange.{WalkChange}
 use Rattle.cores.specs.declared.WalkChange.TheVariants.{Add}
 use Rattle.cores.specs.declared.Write.{Write}
 use Rattle.cores.specs.declared.Write.TheVariants.{Memory}
 use Rattle.cores.specs.declared.Plan.{Plan}
-use Rattle.cores.specs.Plans.{refused, done}
+use Rattle.cores.specs.Plans.{done}
 use Rattle.cores.specs.Core.{is_free}
 use Rattle.cores.specs.TlbSteps.{adding, planned}
 use Rattle.cores.specs.Commit.{written_to}
 use Rattle.cores.proofs.Free.{free_there}
-use Rattle.cores.proofs.Decisions.{MayBeDone, create_plan, extend_plan, accessed_plan}
-use Rattle.machine.specs.declared.action.Action.TheVariants.{Planned}
-use Rattle.machine.specs.Actions.{tables_after, memory_after}
-use Rattle.machine.specs.Decide.{by_step}
+use Rattle.cores.proofs.Decisions.{PlanMayBeDone, MayBeDone, create_plan, extend_plan, accessed_plan}
+use Rattle.machine.specs.Actions.{Planned, tables_after, memory_after}
+use Rattle.machine.specs.Decide.{by_processor, by_plan, by_step}
 use Rattle.machine.proofs.Fitting.{quarters}
 use Rattle.report.specs.Configuration.{Configuration, with_m, with_tlb}
 use Rattle.report.specs.Components.{bytes, inside, ΣM, δm, ΣTlb, δtlb}
@@ -89,7 +90,7 @@ module _ (t m : List ℕ) (e : sound t (length m) ≡ true) (k : ℕ) (h : k < c
   abbrev plan : Plan
   plan = done BufferChange.Nothing (Add w) Write.Nothing
 
-  leads : MayBeDone (length m) b plan → (M : ℕ → ℕ) → Same (added M) (view (tables_after (Planned k plan) t) (memory_after (Planned k plan) m) M)
+  leads : PlanMayBeDone (length m) b plan → (M : ℕ → ℕ) → Same (added M) (view (tables_after (Planned k plan) t) (memory_after (Planned k plan) m) M)
   unfolding view processor_of tables_after memory_after written_to
   leads D M =
       plan_same t m k plan e h D M (with_tlb (processor_of b) (δtlb (λ x. among x (walks b)) (ΣTlb.add_walk w))) (memory_of m M) (ioapic_of t)
@@ -98,7 +99,7 @@ module _ (t m : List ℕ) (e : sound t (length m) ≡ true) (k : ℕ) (h : k < c
       (io_still t m k plan e h D refl)
 
   -- what the step x comes to, which adds w by δ too
-  module _ (x : Step) (has : Has t m x) (next : (M : ℕ → ℕ) → δx t m x M ≡ report.next (added M) report.done)
+  module _ (x : Option Step) (has : Has t m x) (next : (M : ℕ → ℕ) → δx t m x M ≡ report.next (added M) report.done)
       (that : (M : ℕ → ℕ) → Adds t m x M k w) (only : (M : ℕ → ℕ) (i : ℕ) (v : Walk) → Adds t m x M i v → (i ≡ k) × (v ≡ w)) where
     room : among w (walks b) || ltb (length (walks b)) 23 ≡ true → Roomy t m x
     unfolding view processor_of
@@ -108,10 +109,10 @@ module _ (t m : List ℕ) (e : sound t (length m) ≡ true) (k : ℕ) (h : k < c
         let held : length (walks b) ≡ 23 = ap (λ (j : ℕ). length (walks (block t j))) (sym o.0) ∙ C.held in
         true_false (sym r ∙ ap (λ (y : Bool). y || ltb (length (walks b)) 23) new ∙ le-ltb (length (walks b)) 23 (omega arith))
 
-    placed : among w (walks b) || ltb (length (walks b)) 23 ≡ true → MayBeDone (length m) b plan → Case t m x (Planned k plan)
+    placed : among w (walks b) || ltb (length (walks b)) 23 ≡ true → PlanMayBeDone (length m) b plan → Case t m x (by_plan k (Ok plan))
     placed r D = Case.done refl (room r) has (λ M. record { to = added M; is_next = next M; agrees = leads D M })
 
-    pub adds : MayBeDone (length m) b (adding (walks b) (is_free b) w) → Case t m x (Planned k (adding (walks b) (is_free b) w))
+    pub adds : MayBeDone (length m) b (adding (walks b) (is_free b) w) → Case t m x (by_plan k (adding (walks b) (is_free b) w))
     unfolding adding view processor_of
     adds = go (among w (walks b)) (leb 23 (length (walks b))) (is_free b) refl refl refl
       where
@@ -122,7 +123,7 @@ module _ (t m : List ℕ) (e : sound t (length m) ≡ true) (k : ℕ) (h : k < c
         crowded p q M = record { i = k; w = w; adds = that M; new = p; held = omega (arith, n, leb-true 23 (length (walks b)) q) }
 
         go : (a f r : Bool) → among w (walks b) ≡ a → leb 23 (length (walks b)) ≡ f → is_free b ≡ r →
-            MayBeDone (length m) b (if not a && f then refused 9 else if not a && not r then refused 10 else plan) → Case t m x (Planned k (if not a && f then refused 9 else if not a && not r then refused 10 else plan))
+            MayBeDone (length m) b (if not a && f then Err WalksFull else if not a && not r then Err NoFreeRecord else Ok plan) → Case t m x (by_plan k (if not a && f then Err WalksFull else if not a && not r then Err NoFreeRecord else Ok plan))
         go true f r p q z D = placed (ap (λ (y : Bool). y || ltb (length (walks b)) 23) p) D
         go false true r p q z D = Case.no_walk refl has (λ M. record { to = added M; answer = report.done; is_next = next M }) (crowded p q)
         go false false true p q z D =
@@ -147,29 +148,29 @@ module _ (t m : List ℕ) (e : sound t (length m) ≡ true) (ws : Words t) (k : 
   unfolding view processor_of
   new_same M = ap (λ (o : ℕ). winit va (base_address o) (asid_of b₁)) (special_at b₁ at.pto (omega arith))
 
-  outcome : (M : ℕ → ℕ) (g : Bool) → (user_mode b₁ && runs b₁) ≡ g → δx t m (kind.TlbCreate k va) M ≡ (if g then report.next (added t m e k h new M) report.done else report.none)
+  outcome : (M : ℕ → ℕ) (g : Bool) → (user_mode b₁ && runs b₁) ≡ g → δx t m (Some (ByProcessor k (TlbCreate va))) M ≡ (if g then report.next (added t m e k h new M) report.done else report.none)
   unfolding report.δBy report.tlb_create view processor_of
   outcome M g q = rw (lt-ltb k (cores_of t) h, q, special_at b₁ at.pto (omega arith))
 
-  only : (M : ℕ → ℕ) (i : ℕ) (v : Walk) → Adds t m (kind.TlbCreate k va) M i v → (i ≡ k) × (v ≡ new)
+  only : (M : ℕ → ℕ) (i : ℕ) (v : Walk) → Adds t m (Some (ByProcessor k (TlbCreate va))) M i v → (i ≡ k) × (v ≡ new)
   only M i v (Adds.creates j y q) =
       let p : j ≡ k = cc in
       let z : y ≡ va = cc in
       (p, ap₂ (λ (l o : ℕ). report.created (view t m M) l o) p z ∙ new_same M)
   only M i v (Adds.extends j y q) = absurd (let z : ◌≡◌ {A = ℕ} 0 1 = cc in omega arith)
 
-  pub create_case : Case t m (kind.TlbCreate k va) (by_step t m (kind.TlbCreate k va))
-  unfolding by_step tlb_create planned misses
+  pub create_case : Case t m (Some (ByProcessor k (TlbCreate va))) (by_step t m (Some (ByProcessor k (TlbCreate va))))
+  unfolding by_step by_processor tlb_create planned misses
   create_case = go (user_mode b₁ && runs b₁) refl (create_plan b₁ m va low (block_words t k ws (at.spr + at.pto)))
     where
-      plan₁ : Bool → Plan
-      plan₁ g = planned (walks b₁) (is_free b₁) (if g then tlb.Adds new else tlb.Refused 6)
+      plan₁ : Bool → Result Plan Refusal
+      plan₁ g = planned (walks b₁) (is_free b₁) (if g then Ok (tlb.Adds new) else Err NoNextState)
 
-      go : (g : Bool) → (user_mode b₁ && runs b₁) ≡ g → MayBeDone (length m) b₁ (plan₁ g) → Case t m (kind.TlbCreate k va) (Planned k (plan₁ g))
+      go : (g : Bool) → (user_mode b₁ && runs b₁) ≡ g → MayBeDone (length m) b₁ (plan₁ g) → Case t m (Some (ByProcessor k (TlbCreate va))) (by_plan k (plan₁ g))
       go true q D =
-          adds t m e k h new (kind.TlbCreate k va) (λ M y. refl)
+          adds t m e k h new (Some (ByProcessor k (TlbCreate va))) (λ M y. refl)
           (λ M. outcome M true q)
-          (λ M. subst (λ (w : Walk). Adds t m (kind.TlbCreate k va) M k w) (new_same M) (Adds.creates k va refl)) only D
+          (λ M. subst (λ (w : Walk). Adds t m (Some (ByProcessor k (TlbCreate va))) M k w) (new_same M) (Adds.creates k va refl)) only D
       go false q D = Case.undefined refl (is_a_step _ refl) (λ M. outcome M false q)
 
 -- ---- an entry that is not in memory may be any
@@ -231,8 +232,8 @@ module _ (t m : List ℕ) (e : sound t (length m) ≡ true) (bs : Bytes m) (k : 
   abbrev b₂ : List ℕ
   b₂ = block t k
 
-  abbrev x₂ : Step
-  x₂ = kind.TlbExtend k w
+  abbrev x₂ : Option Step
+  x₂ = Some (ByProcessor k (TlbExtend w))
 
   abbrev may_extend : Bool
   may_extend = runs b₂ && extendable (asid_of b₂) (walks b₂) w
@@ -261,7 +262,7 @@ module _ (t m : List ℕ) (e : sound t (length m) ≡ true) (bs : Bytes m) (k : 
   only₂ l M i v (Adds.creates j y q) = absurd (let z : ◌≡◌ {A = ℕ} 0 1 = cc in omega arith)
 
   pub extend_case : Case t m x₂ (by_step t m x₂)
-  unfolding by_step tlb_extend on_extend planned misses entry_at wext_fault suffices view
+  unfolding by_step by_processor tlb_extend on_extend planned misses entry_at wext_fault suffices view
   extend_case = go may_extend refl (leb (ptea w + 4) (length m)) refl (extend_plan b₂ m w (core_sound t (length m) e k h) bs)
     where
       v : ℕ
@@ -271,19 +272,19 @@ module _ (t m : List ℕ) (e : sound t (length m) ≡ true) (bs : Bytes m) (k : 
           δx t m x₂ M ≡ (if g && d then report.next (added t m e k h (wext w n) M) report.done else report.none)
       ifs g d M n p q r = outcome₂ M n r ∙ ap₂ (λ (i j : Bool). if i && j then report.next (added t m e k h (wext w n) M) report.done else report.none) p q
 
-      plan₂ : Decision → Plan
+      plan₂ : Result Change Refusal → Result Plan Refusal
       plan₂ d = planned (walks b₂) (is_free b₂) d
 
-      by_entry : may_extend ≡ true → ptea w + 4 ≤ length m → (d : Bool) → extends v ≡ d → MayBeDone (length m) b₂ (plan₂ (if d then tlb.Adds (wext w v) else tlb.Refused 6)) →
-          Case t m x₂ (Planned k (plan₂ (if d then tlb.Adds (wext w v) else tlb.Refused 6)))
+      by_entry : may_extend ≡ true → ptea w + 4 ≤ length m → (d : Bool) → extends v ≡ d → MayBeDone (length m) b₂ (plan₂ (if d then Ok (tlb.Adds (wext w v)) else Err NoNextState)) →
+          Case t m x₂ (by_plan k (plan₂ (if d then Ok (tlb.Adds (wext w v)) else Err NoNextState)))
       by_entry p l true q D =
           adds t m e k h (wext w v) x₂ (λ M y. entry_has t m e w l y)
           (λ M. ifs true true M v p q (present₂ l M))
           (λ M. subst (λ (z : ℕ). Adds t m x₂ M k (wext w z)) (present₂ l M) (Adds.extends k w refl)) (only₂ l) D
       by_entry p l false q D = Case.undefined refl (is_a_step x₂ refl) (λ M. ifs true false M v p q (present₂ l M))
 
-      go : (g : Bool) → may_extend ≡ g → (i : Bool) → leb (ptea w + 4) (length m) ≡ i → MayBeDone (length m) b₂ (plan₂ (if g then on_extend w (if i then Word v else Missing) else tlb.Refused 6)) →
-          Case t m x₂ (Planned k (plan₂ (if g then on_extend w (if i then Word v else Missing) else tlb.Refused 6)))
+      go : (g : Bool) → may_extend ≡ g → (i : Bool) → leb (ptea w + 4) (length m) ≡ i → MayBeDone (length m) b₂ (plan₂ (if g then on_extend w (if i then Some v else None) else Err NoNextState)) →
+          Case t m x₂ (by_plan k (plan₂ (if g then on_extend w (if i then Some v else None) else Err NoNextState)))
       go false p i l D = Case.undefined refl (is_a_step x₂ refl) (λ M. ifs false (extends (bytes 4 (memory_of m M) (ptea w))) M (bytes 4 (memory_of m M) (ptea w)) p refl refl)
       go true p true l D = by_entry p (leb-true (ptea w + 4) (length m) l) (extends v) refl D
       go true p false l D =
@@ -299,8 +300,8 @@ module _ (t m : List ℕ) (e : sound t (length m) ≡ true) (k : ℕ) (h : k < c
   abbrev b₃ : List ℕ
   b₃ = block t k
 
-  abbrev x₃ : Step
-  x₃ = kind.TlbAccessed k w
+  abbrev x₃ : Option Step
+  x₃ = Some (ByProcessor k (TlbAccessed w))
 
   abbrev may_mark : Bool
   may_mark = user_mode b₃ && extendable (asid_of b₃) (walks b₃) w
@@ -319,7 +320,7 @@ module _ (t m : List ℕ) (e : sound t (length m) ≡ true) (k : ℕ) (h : k < c
   abbrev marks : ℕ → Plan
   marks v = done BufferChange.Nothing WalkChange.Nothing (Memory (ptea w) 4 (set_d v))
 
-  marks_leads : (v : ℕ) → ptea w + 4 ≤ length m → MayBeDone (length m) b₃ (marks v) → (M : ℕ → ℕ) → Same (marked M v) (view (tables_after (Planned k (marks v)) t) (memory_after (Planned k (marks v)) m) M)
+  marks_leads : (v : ℕ) → ptea w + 4 ≤ length m → PlanMayBeDone (length m) b₃ (marks v) → (M : ℕ → ℕ) → Same (marked M v) (view (tables_after (Planned k (marks v)) t) (memory_after (Planned k (marks v)) m) M)
   unfolding tables_after memory_after written_to δm processor_of
   marks_leads v l D M =
       plan_memory_same t m k (marks v) e h D M (δm (memory_of m M) (ΣM.write (record { address = ptea w; value = set_d v; width = 4 })))
@@ -328,7 +329,7 @@ module _ (t m : List ℕ) (e : sound t (length m) ≡ true) (k : ℕ) (h : k < c
       (λ x o. sym (put_memory 4 m M (ptea w) (set_d v) x l))
 
   pub accessed_case : Case t m x₃ (by_step t m x₃)
-  unfolding by_step tlb_accessed on_accessed planned misses entry_at view
+  unfolding by_step by_processor tlb_accessed on_accessed planned misses entry_at view
   accessed_case = go may_mark refl (leb (ptea w + 4) (length m)) refl (accessed_plan b₃ m w)
     where
       v : ℕ
@@ -338,18 +339,18 @@ module _ (t m : List ℕ) (e : sound t (length m) ≡ true) (k : ℕ) (h : k < c
           δx t m x₃ M ≡ (if g && d then report.next (marked M n) report.done else report.none)
       ifs g d M n p q r = outcome₃ M n r ∙ ap₂ (λ (i j : Bool). if i && j then report.next (marked M n) report.done else report.none) p q
 
-      plan₃ : Decision → Plan
+      plan₃ : Result Change Refusal → Result Plan Refusal
       plan₃ d = planned (walks b₃) (is_free b₃) d
 
-      by_entry : may_mark ≡ true → ptea w + 4 ≤ length m → (d : Bool) → pte_p v ≡ d → MayBeDone (length m) b₃ (plan₃ (if d then tlb.Marks (ptea w) (set_d v) else tlb.Refused 6)) →
-          Case t m x₃ (Planned k (plan₃ (if d then tlb.Marks (ptea w) (set_d v) else tlb.Refused 6)))
+      by_entry : may_mark ≡ true → ptea w + 4 ≤ length m → (d : Bool) → pte_p v ≡ d → MayBeDone (length m) b₃ (plan₃ (if d then Ok (tlb.Marks (ptea w) (set_d v)) else Err NoNextState)) →
+          Case t m x₃ (by_plan k (plan₃ (if d then Ok (tlb.Marks (ptea w) (set_d v)) else Err NoNextState)))
       by_entry p l true q D =
           Case.done refl (adds_none t m _ refl) (λ M y. entry_has t m e w l y)
           (λ M. record { to = marked M v; is_next = ifs true true M v p q (memory_bytes m M 4 (ptea w) (ptea_low w) l); agrees = marks_leads v l D M })
       by_entry p l false q D = Case.undefined refl (is_a_step x₃ refl) (λ M. ifs true false M v p q (memory_bytes m M 4 (ptea w) (ptea_low w) l))
 
-      go : (g : Bool) → may_mark ≡ g → (i : Bool) → leb (ptea w + 4) (length m) ≡ i → MayBeDone (length m) b₃ (plan₃ (if g then on_accessed w (if i then Word v else Missing) else tlb.Refused 6)) →
-          Case t m x₃ (Planned k (plan₃ (if g then on_accessed w (if i then Word v else Missing) else tlb.Refused 6)))
+      go : (g : Bool) → may_mark ≡ g → (i : Bool) → leb (ptea w + 4) (length m) ≡ i → MayBeDone (length m) b₃ (plan₃ (if g then on_accessed w (if i then Some v else None) else Err NoNextState)) →
+          Case t m x₃ (by_plan k (plan₃ (if g then on_accessed w (if i then Some v else None) else Err NoNextState)))
       go false p i l D = Case.undefined refl (is_a_step x₃ refl) (λ M. ifs false (pte_p (bytes 4 (memory_of m M) (ptea w))) M (bytes 4 (memory_of m M) (ptea w)) p refl refl)
       go true p true l D = by_entry p (leb-true (ptea w + 4) (length m) l) (pte_p v) refl D
       go true p false l D =

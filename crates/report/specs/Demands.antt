@@ -1,21 +1,24 @@
--- What is demanded of step, as types: demand 1, the answers and what a refusal leaves; demand 2, an accepted step is one of the report's, with one exception,
--- and a refusal has its ground; and the configuration of a machine as made.
+-- What is demanded of step, as types: demand 1, the answers and what a refusal leaves; demand 2, an accepted step is
+-- one of the report's, with one exception, and a refusal has its ground; and the configuration of a machine as made.
 --
--- To be believed are the report's side (Configuration, Components, Delta), the view, what a step needs (Needs), this file, and the definitions that these
--- share with the machine:
--- of numbers and lists alone: words, bits and bytes, with_bit among them (word); decoded and the mnemonics, a table's
--- lines, alucon, overflow, lop, rop, user, asid, ea, d, sv, signals, causes and delta_core (decode, units, isa); the
--- fields of walks, addresses and entries, winit, wext, wext_fault, set-d, complete, hit and ptea (tlb); sbhit, sbv,
--- sbhazard, is_port, apicadr and ioapicadr (store_buffer); least and some_up_to (vector_register); there, local_port,
--- io_port, among and same (records);
--- of words: step_of, the form of a step, and count_at, the word that counts its refusal (steps); the views of words,
--- sound and made (tables); stores and walks (records).
--- That they are not empty is shown in claims: made tables are sound, and there are steps that are accepted and steps refused 5 to 9.
+-- To be believed are the report's side (Configuration, Components, Delta), the view, what a step needs (Needs), this
+-- file, and the definitions that these share with the machine: of numbers and lists alone: words, bits and bytes,
+-- with_bit among them (word); decoded and the mnemonics, a table's lines, alucon, overflow, lop, rop, user, asid, ea,
+-- d, sv, signals, causes and delta_core (decode, units, isa); the fields of walks, addresses and entries, winit, wext,
+-- wext_fault, set-d, complete, hit and ptea (tlb); sbhit, sbv, sbhazard, is_port, apicadr and ioapicadr (store_buffer);
+-- least and some_up_to (vector_register); there, local_port, io_port, among and same (records); of words: step_of, the
+-- form of a step, and count_at, the word that counts its refusal (steps); the views of words, sound and made (tables);
+-- stores and walks (records). That they are not empty is shown in claims: made tables are sound, and there are steps
+-- that are accepted and steps refused 5 to 9.
 --
--- The numbers of records, the order of the walks and the free chain are no part of a configuration. Nothing here fixes them but that tables stay sound:
--- they are as step itself defines them (machine, specs/Step), and the code is proved equal to that.
+-- The numbers of records, the order of the walks and the free chain are no part of a configuration. Nothing here fixes
+-- them but that tables stay sound: they are as step itself defines them (machine, specs/Step), and the code is proved
+-- equal to that.
 -- Assumes nothing.
-use Rattle.std.specs.Prelude.{if◌then◌else◌, ◌≡◌, Bool, true, false, not, ◌&&◌, List, [], ◌∷◌, ℕ, ◌+◌, ◌-◌, ◌*◌, ◌^◌, ◌<◌, ◌≤◌, eqb, ltb, leb, ◌+ℤ◌, ◌-ℤ◌, length, get_or}
+use Rattle.std.specs.Prelude.{if◌then◌else◌, ◌≡◌, Bool, true, false, not, ◌&&◌, List, [], ◌∷◌, ℕ, ◌+◌, ◌-◌, ◌*◌, ◌^◌, ◌<◌, ◌≤◌, eqb, ltb, leb, ◌+ℤ◌, ◌-ℤ◌, length, get_or, Option, Some, None, Result, Ok, Err}
+use Rattle.refusals.specs.declared.Refusal.{Refusal}
+use Rattle.refusals.specs.declared.Refusal.TheVariants.{Unsound, NotAStep, NoNextState, ByteNowhere, StoresFull, WalksFull}
+use Rattle.refusals.specs.Numbers.{number}
 use Rattle.word.specs.Word.{bit, is_set, signed, within}
 use Rattle.layout.specs.Layout as at
 use Rattle.layout.specs.Blocks.{block}
@@ -33,9 +36,11 @@ use Rattle.tables.specs.Views.{cores_of, pages_of, refusals_of, core_refusals_of
 use Rattle.tables.specs.Sound.{sound}
 use Rattle.tables.specs.Make.{made}
 use Rattle.steps.specs.declared.Answer.{Answer}
-use Rattle.steps.specs.declared.Answer.TheVariants.{Done, Interrupt, Refused}
+use Rattle.steps.specs.declared.Answer.TheVariants.{Done, Interrupt}
 use Rattle.steps.specs.declared.Step.{Step}
-use Rattle.steps.specs.declared.Step.TheVariants.{Core, TlbCreate, TlbExtend, TlbAccessed, StoreBuffer, SendIpi, SendEoi, InitCore, StartCore, Sample, Deliver, SetLine, NotAStep}
+use Rattle.steps.specs.declared.Step.TheVariants.{ByProcessor, ByApic}
+use Rattle.steps.specs.declared.ProcessorStep.TheVariants.{Core, TlbCreate, TlbExtend, TlbAccessed, StoreBuffer}
+use Rattle.steps.specs.declared.ApicStep.TheVariants.{SendIpi, SendEoi, InitCore, StartCore, Sample, Deliver, SetLine}
 use Rattle.steps.specs.Form.{step_of, line_count, count_at}
 use Rattle.machine.specs.Step.{Stepped, step}
 use Rattle.report.specs.Configuration.{Configuration}
@@ -54,10 +59,10 @@ Bytes l = (i : ℕ) → get_or l i 0 < 2 ^ 8
 -- ---- demand 1: for any tables, memory and words of a step whatever
 
 -- done, an interrupt of level 0 to 7, a refusal 4 to 10
-abbrev pub known : Answer → Bool
-known Done = true
-known (Interrupt level) = ltb level 8
-known (Refused n) = leb 4 n && leb n 10
+abbrev pub known : Result Answer Refusal → Bool
+known (Ok Done) = true
+known (Ok (Interrupt level)) = ltb level 8
+known (Err r) = leb 4 (number r) && leb (number r) 10
 
 -- a count after refusal n: 4 leaves it, and it stays at its largest
 abbrev pub count_after : ℕ → ℕ → ℕ
@@ -73,9 +78,9 @@ pub record Left (t m s : List ℕ) (n : ℕ) (r : Stepped) : Type 0 where
 pub record Answered (t m s : List ℕ) : Type 0 where
   pub answer : known (step t m s).answer ≡ true
   -- 4 exactly where the tables are not sound, and then nothing moves at all
-  pub four : sound t (length m) ≡ false → step t m s ≡ record { answer = Refused 4; tables = t; memory = m }
-  pub not_four : sound t (length m) ≡ true → (step t m s).answer ≡ Refused 4 → ⊥
-  pub refused : (n : ℕ) → (step t m s).answer ≡ Refused n → Left t m s n (step t m s)
+  pub four : sound t (length m) ≡ false → step t m s ≡ record { answer = Err Unsound; tables = t; memory = m }
+  pub not_four : sound t (length m) ≡ true → (step t m s).answer ≡ Err Unsound → ⊥
+  pub refused : (r : Refusal) → (step t m s).answer ≡ Err r → Left t m s (number r) (step t m s)
   -- words stay words, bytes bytes, and sound tables sound
   pub words : Words t → Bytes m → Words (step t m s).tables
   pub bytes : Bytes m → Bytes (step t m s).memory
@@ -84,7 +89,8 @@ pub record Answered (t m s : List ℕ) : Type 0 where
 abbrev pub Demand1 : Type 0
 Demand1 = (t m s : List ℕ) → Answered t m s
 
--- ---- the exception to demand 2 (docs/AGREEMENT.md, 1): overflow goes by the trade's rule in place of the table of 6.1.2
+-- ---- the exception to demand 2 (docs/AGREEMENT.md, 1): overflow goes by the trade's rule in place of the table of
+-- 6.1.2
 
 -- it is not claimed for the words of these instructions
 abbrev pub excepted : Instruction → Bool
@@ -92,26 +98,27 @@ excepted x =
     one_of x (Instruction.Alu Add ∷ Instruction.Alu Addu ∷ Instruction.Alu Sub ∷ Instruction.Alu Subu ∷ Instruction.Immediate Addi ∷ Instruction.Immediate Addiu ∷ [])
 
 -- a core step on one of them
-abbrev pub on_excepted : Configuration → Step → Bool
-on_excepted c (Core i w_i w_r) = report.is c i w_i w_r excepted
-on_excepted c (TlbCreate i va) = false
-on_excepted c (TlbExtend i w) = false
-on_excepted c (TlbAccessed i w) = false
-on_excepted c (StoreBuffer i) = false
-on_excepted c (SendIpi i) = false
-on_excepted c (SendEoi i) = false
-on_excepted c (InitCore i) = false
-on_excepted c (StartCore i) = false
-on_excepted c (Sample k) = false
-on_excepted c (Deliver k) = false
-on_excepted c (SetLine k level) = false
-on_excepted c NotAStep = false
+abbrev pub on_excepted : Configuration → Option Step → Bool
+on_excepted c (Some (ByProcessor i (Core w_i w_r))) = report.is c i w_i w_r excepted
+on_excepted c (Some (ByProcessor i (TlbCreate va))) = false
+on_excepted c (Some (ByProcessor i (TlbExtend w))) = false
+on_excepted c (Some (ByProcessor i (TlbAccessed w))) = false
+on_excepted c (Some (ByProcessor i StoreBuffer)) = false
+on_excepted c (Some (ByApic (SendIpi i))) = false
+on_excepted c (Some (ByApic (SendEoi i))) = false
+on_excepted c (Some (ByApic (InitCore i))) = false
+on_excepted c (Some (ByApic (StartCore i))) = false
+on_excepted c (Some (ByApic (Sample k))) = false
+on_excepted c (Some (ByApic (Deliver k))) = false
+on_excepted c (Some (ByApic (SetLine k level))) = false
+on_excepted c None = false
 
 -- what is claimed: δ, and instead of it, where it is not claimed, the same step but for iev[7], which is the trade's
-unfoldable pub claimed : Configuration → Step → report.Outcome
+unfoldable pub claimed : Configuration → Option Step → report.Outcome
 claimed c a = if on_excepted c a then report.δBy ovf_of c a else report.δ c a
 
--- the printed table in the trade's words: addu, addiu and subu overflow; add, addi and sub never do, nor does any other instruction
+-- the printed table in the trade's words: addu, addiu and subu overflow; add, addi and sub never do, nor does any other
+-- instruction
 abbrev pub overflow_printed : Instruction → ℕ → ℕ → Bool
 overflow_printed x a b =
     if one_of x (Instruction.Alu Addu ∷ Instruction.Immediate Addiu ∷ []) then not (within 32 (signed 32 a +ℤ signed 32 b))
@@ -120,13 +127,14 @@ overflow_printed x a b =
 
 -- how far the exception goes
 pub record Exception : Type 0 where
-  -- the table comes to that, and so differs from the rule on those words alone, and there only where the signed sum or difference does not fit 32 bits
+  -- the table comes to that, and so differs from the rule on those words alone, and there only where the signed sum or
+  -- difference does not fit 32 bits
   pub in_words : (c : Registers) (w : ℕ) → report.by_table (decoded w) c w ≡ overflow_printed (decoded w) (lop c w) (rop (rtype (decoded w)) c w)
   -- where it does not differ on the instruction, the claim is δ
   pub agreeing : (c : Configuration) (i : ℕ) (w_i w_r : Walk) →
-      (let I = report.I c i w_i w_r in report.by_table (decoded I) (report.cᵢ c i) I ≡ ovf_of (decoded I) (report.cᵢ c i) I) → claimed c (Core i w_i w_r) ≡ report.δ c (Core i w_i w_r)
+      (let I = report.I c i w_i w_r in report.by_table (decoded I) (report.cᵢ c i) I ≡ ovf_of (decoded I) (report.cᵢ c i) I) → claimed c (Some (ByProcessor i (Core w_i w_r))) ≡ report.δ c (Some (ByProcessor i (Core w_i w_r)))
   -- and so it is where the status register masks overflow
-  pub masked : (c : Configuration) (i : ℕ) (w_i w_r : Walk) → is_set (spr_at (report.cᵢ c i) at.sr) 7 ≡ false → claimed c (Core i w_i w_r) ≡ report.δ c (Core i w_i w_r)
+  pub masked : (c : Configuration) (i : ℕ) (w_i w_r : Walk) → is_set (spr_at (report.cᵢ c i) at.sr) 7 ≡ false → claimed c (Some (ByProcessor i (Core w_i w_r))) ≡ report.δ c (Some (ByProcessor i (Core w_i w_r)))
 
 -- ---- demand 2: for sound tables
 
@@ -142,7 +150,7 @@ pub record Next (o : report.Outcome) (answer : report.Answer) (c : Configuration
   pub agrees : Same to c
 
 -- the step a on the tables t beside the memory m, where M has the bytes beyond memory
-module _ (t m : List ℕ) (a : Step) where
+module _ (t m : List ℕ) (a : Option Step) where
   abbrev pub outcome : (ℕ → ℕ) → report.Outcome
   outcome M = report.δ (view t m M) a
 
@@ -155,14 +163,14 @@ module _ (t m : List ℕ) (a : Step) where
     pub i : ℕ
     pub w_i : Walk
     pub w_r : Walk
-    pub is_core : a ≡ Core i w_i w_r
+    pub is_core : a ≡ Some (ByProcessor i (Core w_i w_r))
     pub is_store : report.does (view t m M) i w_i w_r report.by_table store ≡ true
     pub eight : length ((view t m M).p i).sb ≡ 8
 
   -- the walk w that the step adds to processor i
   pub data Adds (M : ℕ → ℕ) : ℕ → Walk → Type 0 where
-    creates : (i va : ℕ) → a ≡ TlbCreate i va → Adds M i (report.created (view t m M) i va)
-    extends : (i : ℕ) (w : Walk) → a ≡ TlbExtend i w → Adds M i (report.extended (view t m M) i w)
+    creates : (i va : ℕ) → a ≡ Some (ByProcessor i (TlbCreate va)) → Adds M i (report.created (view t m M) i va)
+    extends : (i : ℕ) (w : Walk) → a ≡ Some (ByProcessor i (TlbExtend w)) → Adds M i (report.extended (view t m M) i w)
 
   -- it is new, and 23 are held
   pub record Crowded (M : ℕ → ℕ) : Type 0 where
@@ -183,11 +191,11 @@ pub record Kept (t m u n : List ℕ) : Type 0 where
   pub core_counts : (k : ℕ) → k < cores_of t → core_refusals_of (block u k) ≡ core_refusals_of (block t k)
 
 module _ (t m s : List ℕ) where
-  abbrev pub a : Step
+  abbrev pub a : Option Step
   a = step_of (cores_of t) s
 
-  -- accepted with the answer r: δ gives it, but for the exception, and the view of what step leaves with the same bytes beyond memory; nothing that would
-  -- refuse it is there
+  -- accepted with the answer r: δ gives it, but for the exception, and the view of what step leaves with the same bytes
+  -- beyond memory; nothing that would refuse it is there
   pub record Accepted (r : report.Answer) : Type 0 where
     pub next : (M : ℕ → ℕ) → Next (claimed (view t m M) a) r (view (step t m s).tables (step t m s).memory M)
     pub kept : Kept t m (step t m s).tables (step t m s).memory
@@ -196,28 +204,27 @@ module _ (t m s : List ℕ) where
     pub not_crowded : (M : ℕ → ℕ) → Crowded t m a M → ⊥
 
   -- what each answer of step rests on; there is no ground for any other, so 10 is never answered
-  pub data Ground : Answer → Type 0 where
-    done : Accepted report.done → Ground Done
-    interrupt : (level : ℕ) → Accepted (report.interrupt level) → Ground (Interrupt level)
+  pub data Ground : Result Answer Refusal → Type 0 where
+    done : Accepted report.done → Ground (Ok Done)
+    interrupt : (level : ℕ) → Accepted (report.interrupt level) → Ground (Ok (Interrupt level))
     -- 5: not a step
-    no_step : a ≡ NotAStep → Ground (Refused 5)
+    no_step : a ≡ None → Ground (Err NotAStep)
     -- 6: a step for which δ is not defined, whatever is beyond memory
-    undefined : (a ≡ NotAStep → ⊥) → ((M : ℕ → ℕ) → outcome t m a M ≡ report.none) → Ground (Refused 6)
+    undefined : (a ≡ None → ⊥) → ((M : ℕ → ℕ) → outcome t m a M ≡ report.none) → Ground (Err NoNextState)
     -- 7: a byte that is needed is nowhere; with some bytes beyond memory δ is defined
-    no_byte : (x : ℕ) → ((M : ℕ → ℕ) → misses (view t m M) a (length m) x ≡ true) → (M : ℕ → ℕ) → ((y : ℕ) → M y < 2 ^ 8) → Allowed (outcome t m a M) → Ground (Refused 7)
+    no_byte : (x : ℕ) → ((M : ℕ → ℕ) → misses (view t m M) a (length m) x ≡ true) → (M : ℕ → ℕ) → ((y : ℕ) → M y < 2 ^ 8) → Allowed (outcome t m a M) → Ground (Err ByteNowhere)
     -- 8: δ allows it, and it is a ninth store
-    no_store : Present t m a → ((M : ℕ → ℕ) → Allowed (outcome t m a M)) → ((M : ℕ → ℕ) → Full t m a M) → Ground (Refused 8)
+    no_store : Present t m a → ((M : ℕ → ℕ) → Allowed (outcome t m a M)) → ((M : ℕ → ℕ) → Full t m a M) → Ground (Err StoresFull)
     -- 9: δ allows it, and it adds a twenty-fourth walk
-    no_walk : Present t m a → ((M : ℕ → ℕ) → Allowed (outcome t m a M)) → ((M : ℕ → ℕ) → Crowded t m a M) → Ground (Refused 9)
+    no_walk : Present t m a → ((M : ℕ → ℕ) → Allowed (outcome t m a M)) → ((M : ℕ → ℕ) → Crowded t m a M) → Ground (Err WalksFull)
 
 abbrev pub Demand2 : Type 0
 Demand2 = (t m s : List ℕ) → sound t (length m) ≡ true → Words t → Bytes m → Ground t m s (step t m s).answer
 
 -- in the customer's words: what δ allows is accepted, or refused 7 to 10
-abbrev pub limited : Answer → Bool
-limited Done = true
-limited (Interrupt level) = true
-limited (Refused n) = leb 7 n && leb n 10
+abbrev pub limited : Result Answer Refusal → Bool
+limited (Ok x) = true
+limited (Err r) = leb 7 (number r) && leb (number r) 10
 
 abbrev pub Unhindered : Type 0
 Unhindered =

@@ -1,6 +1,6 @@
 -- Laws of reach: tables lead into it, its cores' blocks are good, and it depends on those blocks and its tables alone.
 -- Assumes nothing.
-use Rattle.std.specs.Prelude.{if◌then◌else◌}
+use Rattle.std.specs.Prelude.{if◌then◌else◌, Option, Some}
 use mathlib.Core.Path.{◌≡◌, refl, sym, ap, ap₂, subst, ◌∙◌}
 use mathlib.Core.Bool.{Bool, true, ◌&&◌}
 use mathlib.Core.List.{List, [], ◌∷◌, ◌++◌, map, flat_map}
@@ -17,8 +17,6 @@ use Rattle.tables.specs.Sound.{sound_block}
 use Rattle.tables.proofs.Steps.{block_stores, block_walks}
 use Rattle.word.proofs.Words.{Words}
 use Rattle.word.proofs.Truth.{and_left, and_right, and_both}
-use Rattle.tlb.specs.declared.Entry.{Entry}
-use Rattle.tlb.specs.declared.Entry.TheVariants.{Word}
 use Rattle.tlb.specs.Walks.{walk_level, walk_r, walk_ba, base_address, entry_at, ptea_at, pte_p, pte_r, pte_ba, complete}
 use Rattle.tables.specs.Views.{user_mode}
 use Rattle.tlb.specs.Steps.{origin_of}
@@ -33,10 +31,10 @@ use Rattle.separation.proofs.Local.{aligned_fits}
 
 -- ---- entries
 
-named_entry : (t : ℕ → Bool) (x : Entry) (e : ℕ) → x ≡ Word e → pte_p e ≡ true → t (pte_r e) ≡ true → In (pte_ba e) (named_by t x)
-named_entry t x e q p r = subst (λ (y : Entry). In (pte_ba e) (named_by t y)) (sym q) (subst (λ (b : Bool). In (pte_ba e) (if b then pte_ba e ∷ [] else [])) (sym (and_both (pte_p e) _ p r)) (in_here (pte_ba e) []))
+named_entry : (t : ℕ → Bool) (x : Option ℕ) (e : ℕ) → x ≡ Some e → pte_p e ≡ true → t (pte_r e) ≡ true → In (pte_ba e) (named_by t x)
+named_entry t x e q p r = subst (λ (y : Option ℕ). In (pte_ba e) (named_by t y)) (sym q) (subst (λ (b : Bool). In (pte_ba e) (if b then pte_ba e ∷ [] else [])) (sym (and_both (pte_p e) _ p r)) (in_here (pte_ba e) []))
 
-named_in : (t : ℕ → Bool) (m : List ℕ) (p i e : ℕ) → i < 1024 → entry_at m (ptea_at p i) ≡ Word e → pte_p e ≡ true → t (pte_r e) ≡ true → In (pte_ba e) (named t m p)
+named_in : (t : ℕ → Bool) (m : List ℕ) (p i e : ℕ) → i < 1024 → entry_at m (ptea_at p i) ≡ Some e → pte_p e ≡ true → t (pte_r e) ≡ true → In (pte_ba e) (named t m p)
 unfolding named
 named_in t m p i e q h x r =
     in_flat_map (λ (j : ℕ). named_by t (entry_at m (ptea_at p j))) i (pte_ba e) (range 1024) (in_range 1024 i q) (named_entry t (entry_at m (ptea_at p i)) e h x r)

@@ -20,7 +20,9 @@ use Rattle.ioapic.proofs.Blocks.{block_words}
 use Rattle.tlb.specs.Walks.{set_d}
 use Rattle.reach.specs.Lists.{range, has}
 use Rattle.reach.specs.Reach.{Pages, table_pages, reached, reach, in_memory, members, is_group}
-use Rattle.separation.specs.declared.Verdict.TheVariants.{Yes, No, Refused}
+use Rattle.std.specs.Prelude.{Result, Ok, Err}
+use Rattle.refusals.specs.declared.Refusal.{Refusal}
+use Rattle.refusals.specs.declared.Refusal.TheVariants.{Unsound, Group}
 use Rattle.separation.specs.Apart.{apart, pages_apart, apart_on, running_cores, rest, runs_as_user, disjoint, closed}
 use Rattle.separation.specs.Separation.{Machine, Given, verdict, Point, start, group, others, table_bit, writable_bit, either, Framed}
 use Rattle.reach.proofs.Lists.{In, in_left, in_right, in_append, in_range, range_in, in_select, select_in, disjoint_in, all_in}
@@ -30,13 +32,13 @@ use Rattle.separation.proofs.Closing.{closed_reach, good_reach}
 use Rattle.separation.proofs.Mapped.{reached_low, table_bit_lem, writable_bit_lem}
 use Rattle.separation.proofs.Within.{Parted, Fixed, Within}
 
-if_yes : (s i a : Bool) → (if not s then Refused 4 else if not i then Refused 13 else if a then Yes else No) ≡ Yes → (s ≡ true) × (i ≡ true) × (a ≡ true)
+if_yes : (s i a : Bool) → ◌≡◌ {A = Result Bool Refusal} (if not s then Err Unsound else if not i then Err Group else Ok a) (Ok true) → (s ≡ true) × (i ≡ true) × (a ≡ true)
 if_yes true true true e = (refl, refl, refl)
 if_yes true true false e = absurd (let z : ◌≡◌ {A = ℕ} 0 1 = cc in omega arith)
 if_yes true false a e = absurd (let z : ◌≡◌ {A = ℕ} 0 1 = cc in omega arith)
 if_yes false i a e = absurd (let z : ◌≡◌ {A = ℕ} 0 1 = cc in omega arith)
 
-module _ (g : ℕ) (M : Machine) (I : Given M) (e : verdict g M ≡ Yes) where
+module _ (g : ℕ) (M : Machine) (I : Given M) (e : verdict g M ≡ Ok true) where
   answered : (sound M.tables (length M.memory) ≡ true) × (is_group g (cores_of M.tables) ≡ true) × (apart g M.tables M.memory ≡ true)
   unfolding apart_on
   answered = if_yes (sound M.tables (length M.memory)) (is_group g (cores_of M.tables)) (apart g M.tables M.memory) e

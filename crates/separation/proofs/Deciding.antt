@@ -23,7 +23,8 @@ use Rattle.reach.specs.Lists.{range, has, select}
 use Rattle.reach.specs.Reach.{Pages, is_group, members, table_pages, reached, reach, in_memory, map_byte, map_for}
 use Rattle.reach.proofs.Lists.{In, in_right, in_range, range_in, all_in, in_all, all_append, both_ways, has_append}
 use Rattle.separation.specs.Apart.{running_cores, rest, rest_below, rest_group, runs_as_user, disjoint, closed, pages_apart, apart, apart_on}
-use Rattle.separation.specs.declared.Verdict.TheVariants.{Yes, No, Refused}
+use Rattle.std.specs.Prelude.{Ok, Err}
+use Rattle.refusals.specs.declared.Refusal.TheVariants.{Unsound, Group}
 use Rattle.separation.specs.inner.Sides.{passes, both, page_apart}
 use Rattle.separation.proofs.Members.{Bits, bits_none, bits_next, bits_members, byte_flag}
 use Rattle.separation.proofs.Mapped.{marked_is, byte_in, byte_table, byte_writable, reached_low}
@@ -239,21 +240,21 @@ room n h = length-take-le n (replicate 4096 0) (omega (arith, length-replicate {
 -- ---- the verdict
 
 module _ (t m : List ℕ) (g : ℕ) where
-  pub says_4 : sound t (length m) ≡ false → Refused 4 ≡ apart_on g t m
+  pub says_unsound : sound t (length m) ≡ false → Err Unsound ≡ apart_on g t m
   unfolding apart_on
-  says_4 e = rw e
+  says_unsound e = rw e
 
-  pub says_13 : sound t (length m) ≡ true → is_group g (cores_of t) ≡ false → Refused 13 ≡ apart_on g t m
+  pub says_group : sound t (length m) ≡ true → is_group g (cores_of t) ≡ false → Err Group ≡ apart_on g t m
   unfolding apart_on
-  says_13 e f = rw (e, f)
+  says_group e f = rw (e, f)
 
   module _ (e : sound t (length m) ≡ true) (f : is_group g (cores_of t) ≡ true) where
-    says : (b : Bool) → apart g t m ≡ b → (if b then Yes else No) ≡ apart_on g t m
+    says : (b : Bool) → apart g t m ≡ b → Ok b ≡ apart_on g t m
     unfolding apart_on
     says b h = rw (e, f, h)
 
-    pub says_mode : all (passes g t) (range (cores_of t)) ≡ false → No ≡ apart_on g t m
+    pub says_mode : all (passes g t) (range (cores_of t)) ≡ false → Ok false ≡ apart_on g t m
     says_mode h = says false (unfold apart in ap (λ (b : Bool). b && pages_apart (pages_of t) (S t m g) (T t m g)) (users_are g t ∙ h))
 
-    pub says_pages : all (passes g t) (range (cores_of t)) ≡ true → (b : Bool) → b ≡ pages_apart (pages_of t) (S t m g) (T t m g) → (if b then Yes else No) ≡ apart_on g t m
+    pub says_pages : all (passes g t) (range (cores_of t)) ≡ true → (b : Bool) → b ≡ pages_apart (pages_of t) (S t m g) (T t m g) → Ok b ≡ apart_on g t m
     says_pages h b q = says b (unfold apart in ap (λ (a : Bool). a && pages_apart (pages_of t) (S t m g) (T t m g)) (users_are g t ∙ h) ∙ sym q)

@@ -1,6 +1,7 @@
 -- The facts about one step of kind 0 to 4 of a core whose block is good for the pages S of its side.
 -- Assumes nothing.
-use Rattle.std.specs.Prelude.{if◌then◌else◌}
+use Rattle.std.specs.Prelude.{if◌then◌else◌, Result, Ok, Err}
+use Rattle.refusals.specs.declared.Refusal.{Refusal}
 use mathlib.Core.Path.{◌≡◌, sym, ap, ap₂, subst, ◌∙◌}
 use mathlib.Core.Bool.{Bool, true, false}
 use mathlib.Core.List.{List, [], ◌∷◌}
@@ -19,9 +20,8 @@ use Rattle.tables.specs.Views.{cores_of}
 use Rattle.tables.specs.Sound.{sound}
 use Rattle.tables.proofs.Lift.{core_long, core_sound}
 use Rattle.tables.proofs.Places.{count_allowed, set_stores, set_walks, set_registers}
-use Rattle.steps.specs.declared.Answer.{Answer}
 use Rattle.steps.specs.Form.{word}
-use Rattle.machine.specs.Step.{Stepped, is_accepted, one_more, step}
+use Rattle.machine.specs.Step.{Stepped, one_more, step}
 use Rattle.cores.specs.declared.BufferChange.{BufferChange}
 use Rattle.cores.specs.declared.BufferChange.TheVariants.{Put, Take}
 use Rattle.cores.specs.declared.WalkChange.{WalkChange}
@@ -30,15 +30,17 @@ use Rattle.cores.specs.declared.Write.{Write}
 use Rattle.cores.specs.declared.Write.TheVariants.{Memory, LocalPort, IoPort}
 use Rattle.cores.specs.declared.Plan.{Plan}
 use Rattle.cores.specs.Core.{io_ports_of}
-use Rattle.cores.specs.Commit.{written_to, block_after, memory_by_plan}
+use Rattle.cores.specs.Commit.{written_to, block_after}
 use Rattle.cores.proofs.Sounds.{plan_shows, stores_after, tlb_after}
 use Rattle.reach.specs.Reach.{Pages, table_pages, reached}
 use Rattle.separation.specs.Separation.{is_interrupt}
 use Rattle.reach.proofs.Lists.{Each, each_append}
-use Rattle.separation.proofs.Memory.{Agree, Kept, put_same, put_bytes}
+use Rattle.separation.proofs.Memory.{Agree, Kept, kept_refl, put_same, put_bytes}
 use Rattle.separation.proofs.Good.{WalkOk, StoreOk, Good, Closed, Low, good_after, each_with, each_staying, each_drop}
 use Rattle.machine.proofs.Taking.{by_test}
-use Rattle.machine.proofs.Locality.{Plain, plan_of, form_of, own_after, is_counted, Law, plan_done, step_law}
+use Rattle.machine.proofs.Levels.{answered}
+use Rattle.cores.proofs.Decisions.{MayBeDone}
+use Rattle.machine.proofs.Locality.{Plain, plan_of, form_of, own_after, bytes_after, is_counted, Law, plan_done, step_law}
 use Rattle.separation.proofs.Local.{plan_same}
 use Rattle.separation.proofs.Safe.{BufferOk, WalksOk, Safe, plan_safe}
 
@@ -66,6 +68,10 @@ written_same ps m n (Memory i d v) g a h = put_same d m n i v a (g a h)
 written_same ps m n (LocalPort i v) g a h = g a h
 written_same ps m n (IoPort i v) g a h = g a h
 
+bytes_same : (ps m n : List ℕ) (p : Result Plan Refusal) → Agree ps m n → Agree ps (bytes_after p m) (bytes_after p n)
+bytes_same ps m n (Ok p) A = written_same ps m n p.write A
+bytes_same ps m n (Err r) A = A
+
 -- a refusal more leaves a good block good
 good_more : (S : Pages) (b : List ℕ) → Good S b → Good S (one_more at.core_refusals b)
 unfolding one_more
@@ -80,11 +86,9 @@ good_more S b G = go (get_or b at.core_refusals 0) (ltb (get_or b at.core_refusa
         (subst (Each (StoreOk S)) (sym (set_stores b at.core_refusals (v + 1) A)) G.pending)
     go v false = G
 
--- so does a step of the core, if its plan does
-good_own : (S : Pages) (c : Bool) (p : Plan) (a : Answer) (b : List ℕ) → Good S b → Good S (block_after p b) → Good S (own_after c p a b)
-good_own S c p a b G H =
-    by_test (Good S) (is_accepted a) (block_after p b) _ (λ _. H)
-    (λ _. by_test (Good S) c (one_more at.core_refusals b) b (λ _. good_more S b G) (λ _. G))
+-- so does a refused step
+good_refused : (S : Pages) (c : Bool) (r : Refusal) (b : List ℕ) → Good S b → Good S (own_after c (Err r) b)
+good_refused S c r b G = by_test (Good S) c (one_more at.core_refusals b) b (λ _. good_more S b G) (λ _. G)
 
 -- what a step does within its side
 pub record Steps (S : Pages) (t m : List ℕ) (k : ℕ) (r : Stepped) : Type 0 where
@@ -97,28 +101,35 @@ module _ (S : Pages) (L : Low S) (t m s : List ℕ) (e : sound t (length m) ≡ 
   k : ℕ
   k = word s 1
 
-  abbrev P : Plan
+  abbrev P : Result Plan Refusal
   P = plan_of o (block t (word s 1)) (io_ports_of t) m
 
   pub law : Law t m (word s 1) (is_counted s) (plan_of o (block t (word s 1)) (io_ports_of t) m) (step t m s)
   law = step_law t m s e b h G.word o
 
-  pub steps : Closed S m → Steps S t m (word s 1) (step t m s)
-  steps C =
-      let D = plan_done t m e s h o b G.word in
-      let safe : Safe S m (block t (word s 1)) P = plan_safe S L m (block t (word s 1)) b G C o (io_ports_of t) in
-      let shows = plan_shows (length m) P (block t (word s 1)) (core_long t (length m) e (word s 1) h) (core_sound t (length m) e (word s 1) h) D.is_ready D.is_sound in
+  -- by what was decided
+  within : (p : Result Plan Refusal) (r : Stepped) → Law t m (word s 1) (is_counted s) p r → MayBeDone (length m) (block t (word s 1)) p → Safe S m (block t (word s 1)) p → Steps S t m (word s 1) r
+  within (Err x) r law D safe =
+      record {
+        kept = subst (λ (n : List ℕ). Kept (table_pages S) S.writables m n) (sym law.bytes) (kept_refl _ _ m);
+        good = λ q. subst (Good S) (sym law.own) (good_refused S (is_counted s) x (block t (word s 1)) G);
+        bytes = subst (λ (n : List ℕ). Bytes n) (sym law.bytes) b;
+      }
+  within (Ok p) r law D safe =
+      let shows = plan_shows (length m) p (block t (word s 1)) (core_long t (length m) e (word s 1) h) (core_sound t (length m) e (word s 1) h) D.is_ready D.is_sound in
       record {
         kept = subst (λ (n : List ℕ). Kept (table_pages S) S.writables m n) (sym law.bytes) safe.kept;
         good = λ q.
             subst (Good S) (sym law.own)
-            (good_own S (is_counted s) P P.answer (block t (word s 1)) G
-            (good_after S (block t (word s 1)) (block_after P (block t (word s 1))) G
+            (good_after S (block t (word s 1)) (block_after p (block t (word s 1))) G
             (ap (λ (r : Registers). r.spr) shows.registers_view ∙ safe.special (sym (ap is_interrupt law.answers) ∙ q))
-            (subst (Each (WalkOk S)) (sym shows.walks_view) (walks_after_lem S P.walks (walks (block t (word s 1))) safe.adds G.held))
-            (subst (Each (StoreOk S)) (sym shows.stores_view) (stores_after_lem S P.buffer (stores (block t (word s 1))) safe.puts G.pending))));
-        bytes = subst (λ (n : List ℕ). Bytes n) (sym law.bytes) (written_bytes P.write m b);
+            (subst (Each (WalkOk S)) (sym shows.walks_view) (walks_after_lem S p.walks (walks (block t (word s 1))) safe.adds G.held))
+            (subst (Each (StoreOk S)) (sym shows.stores_view) (stores_after_lem S p.buffer (stores (block t (word s 1))) safe.puts G.pending)));
+        bytes = subst (λ (n : List ℕ). Bytes n) (sym law.bytes) (written_bytes p.write m b);
       }
+
+  pub steps : Closed S m → Steps S t m (word s 1) (step t m s)
+  steps C = within P (step t m s) law (plan_done t m e s h o b G.word) (plan_safe S L m (block t (word s 1)) b G C o (io_ports_of t))
 
 -- from two machines with the same block, whose memories agree on what the side reaches, a step does the same
 pub record Matched (S : Pages) (k : ℕ) (x y : Stepped) : Type 0 where
@@ -137,10 +148,10 @@ matched S L t m u n s e f b c h i G o q A =
     let X = law S L t m s e b h G o in
     let Y = law S L u n s f c i F o in
     record {
-      answers = X.answers ∙ ap (λ (r : Plan). r.answer) p ∙ sym Y.answers;
-      blocks = X.own ∙ ap₂ (λ (r : Plan) (x : List ℕ). own_after (is_counted s) r r.answer x) p q ∙ sym Y.own;
+      answers = X.answers ∙ ap answered p ∙ sym Y.answers;
+      blocks = X.own ∙ ap₂ (λ (r : Result Plan Refusal) (x : List ℕ). own_after (is_counted s) r x) p q ∙ sym Y.own;
       memories =
-          subst (λ (x : List ℕ). Agree (reached S) (step t m s).memory x) (sym (Y.bytes ∙ ap (λ (r : Plan). memory_by_plan r n) (sym p)))
-          (subst (λ (x : List ℕ). Agree (reached S) x (memory_by_plan (plan_of o (block t (word s 1)) (io_ports_of t) m) n)) (sym X.bytes)
-          (written_same (reached S) m n (plan_of o (block t (word s 1)) (io_ports_of t) m).write A));
+          subst (λ (x : List ℕ). Agree (reached S) (step t m s).memory x) (sym (Y.bytes ∙ ap (λ (r : Result Plan Refusal). bytes_after r n) (sym p)))
+          (subst (λ (x : List ℕ). Agree (reached S) x (bytes_after (plan_of o (block t (word s 1)) (io_ports_of t) m) n)) (sym X.bytes)
+          (bytes_same (reached S) m n (plan_of o (block t (word s 1)) (io_ports_of t) m) A));
     }

@@ -1,5 +1,6 @@
 -- What holds of a core's block and of the tables within a list, for the pages S of the core's side.
 -- Assumes nothing.
+use Rattle.std.specs.Prelude.{Some}
 use mathlib.Core.Path.{◌≡◌, sym, ap, subst, ◌∙◌}
 use mathlib.Core.Logic.{⊎_elim}
 use mathlib.Core.Bool.{Bool, true, false, ◌&&◌, false≢true}
@@ -20,7 +21,6 @@ use Rattle.records.specs.inner.Walks.{with_walk, staying}
 use Rattle.records.specs.Contents.{local_port, io_port}
 use Rattle.records.proofs.Facts.{same_walk}
 use Rattle.tables.specs.Views.{registers_of, user_mode}
-use Rattle.tlb.specs.declared.Entry.TheVariants.{Word}
 use Rattle.tlb.specs.Walks.{walk_level, walk_r, walk_ba, ptea, ptea_at, entry_at, pte_p, pte_r, pte_ba, base_address}
 use Rattle.tlb.specs.Steps.{origin_of}
 use Rattle.tables.proofs.Shown.{special_at}
@@ -56,9 +56,9 @@ pub record Good (S : Pages) (b : List ℕ) : Type 0 where
 
 -- tables lead where reach showed
 pub record Closed (S : Pages) (m : List ℕ) : Type 0 where
-  pub down : (p i e : ℕ) → In p S.firsts → i < 1024 → entry_at m (ptea_at p i) ≡ Word e → pte_p e ≡ true → In (pte_ba e) S.seconds
-  pub leaf : (p i e : ℕ) → In p S.seconds → i < 1024 → entry_at m (ptea_at p i) ≡ Word e → pte_p e ≡ true → In (pte_ba e) S.datas
-  pub leaf_write : (p i e : ℕ) → In p S.seconds → i < 1024 → entry_at m (ptea_at p i) ≡ Word e → pte_p e ≡ true → grants_write (pte_r e) ≡ true → In (pte_ba e) S.writables
+  pub down : (p i e : ℕ) → In p S.firsts → i < 1024 → entry_at m (ptea_at p i) ≡ Some e → pte_p e ≡ true → In (pte_ba e) S.seconds
+  pub leaf : (p i e : ℕ) → In p S.seconds → i < 1024 → entry_at m (ptea_at p i) ≡ Some e → pte_p e ≡ true → In (pte_ba e) S.datas
+  pub leaf_write : (p i e : ℕ) → In p S.seconds → i < 1024 → entry_at m (ptea_at p i) ≡ Some e → pte_p e ≡ true → grants_write (pte_r e) ≡ true → In (pte_ba e) S.writables
 
 -- every page reached is below 4,096, and so no port
 abbrev pub Low : Pages → Type 0
@@ -172,7 +172,7 @@ module _ (ts ws m n : List ℕ) (k : Kept ts ws m n) (bm : Bytes m) (bn : Bytes 
         deep j {x} s t e = rw e (byte_kept j s t)
 
     -- an entry of the memory after was there before, with the same base, present bit and rights
-    pub entry_kept : (e : ℕ) → entry_at n (ptea_at p i) ≡ Word e → (f : ℕ) × (entry_at m (ptea_at p i) ≡ Word f) × (e / 2 ^ 8 ≡ f / 2 ^ 8)
+    pub entry_kept : (e : ℕ) → entry_at n (ptea_at p i) ≡ Some e → (f : ℕ) × (entry_at m (ptea_at p i) ≡ Some f) × (e / 2 ^ 8 ≡ f / 2 ^ 8)
     entry_kept e h =
         let w = entry_word n (ptea_at p i) h in (
           bytes_at 4 m (ptea_at p i),

@@ -1,6 +1,6 @@
 -- Locality: from two memories that agree on the pages that the core's side reaches a step makes the same plan.
 -- Assumes nothing.
-use Rattle.std.specs.Prelude.{if◌then◌else◌}
+use Rattle.std.specs.Prelude.{if◌then◌else◌, Option, Some, None, Err}
 use mathlib.Core.Path.{◌≡◌, refl, sym, ap, ap₂, subst, ◌∙◌}
 use mathlib.Core.Logic.{⊎_elim}
 use mathlib.Core.Bool.{Bool, true, false, ◌&&◌, ◌||◌, not, false≢true}
@@ -29,16 +29,13 @@ use Rattle.tlb.specs.Walks.{walk_level, walk_r, walk_ba, complete, hit, pte, pte
 use Rattle.tlb.specs.Steps.{extendable, tlb_extend, tlb_accessed, on_extend, on_accessed, extend_on, accessed_on}
 use Rattle.tlb.proofs.Fields.{incomplete_level}
 use Rattle.tlb.proofs.Steps.{is_held, is_incomplete}
-use Rattle.store_buffer.specs.declared.Loaded.TheVariants.{Hazard}
-use Rattle.store_buffer.specs.declared.Read.{Read}
-use Rattle.store_buffer.specs.declared.Read.TheVariants.{There, Nowhere}
+use Rattle.store_buffer.specs.declared.LoadError.{LoadError}
 use Rattle.steps.specs.declared.Step.{Step}
 use Rattle.store_buffer.specs.Buffer.{sbhit, sbv, maxsbhit, sbhazard}
 use Rattle.store_buffer.specs.Leaving.{place_of}
 use Rattle.store_buffer.specs.System.{Ports, is_port, sized, aligned, memory_byte, beneath, ms_of, ms, join, reads, on_read, loaded}
 use Rattle.cores.specs.Guards.{yield, test}
 use Rattle.cores.specs.Core.{View, view_of, is_event, causes, suppressed, fault_of, physical, on_load, on_store, on_cas, stored_from, performed, is_access, avoids_ports, has_hazard, on_address, on_data, on_access, on_instruction, finds_buffer, data_request_of, fetch_request_of, on_word, on_fetch_address, on_fetch, fetch, judged, core_plan, is_free, without_access, ports_beside}
-use Rattle.cores.specs.Plans.{refused}
 use Rattle.cores.specs.declared.IoPorts.{IoPorts}
 use Rattle.cores.specs.TlbSteps.{planned}
 use Rattle.cores.specs.BufferStep.{on_oldest, buffer_step}
@@ -72,7 +69,7 @@ join_page p a = omega arith
 
 -- ---- bytes that are read
 
-reads_same : (k : ℕ) (f g : ℕ → Read) (a : ℕ) → a + k < 2 ^ 32 → ((j : ℕ) → a ≤ j → j < a + k → f j ≡ g j) → reads k f a ≡ reads k g a
+reads_same : (k : ℕ) (f g : ℕ → Option ℕ) (a : ℕ) → a + k < 2 ^ 32 → ((j : ℕ) → a ≤ j → j < a + k → f j ≡ g j) → reads k f a ≡ reads k g a
 unfolding reads
 reads_same zero f g a l h = refl
 reads_same (suc k) f g a l h =
@@ -81,11 +78,11 @@ reads_same (suc k) f g a l h =
     (ap (reads k f) e ∙ reads_same k f g (a + 1) (omega arith) (λ j p q. h j (omega arith) (omega arith)) ∙ sym (ap (reads k g) e))
 
 memory_byte_lem : (m n : List ℕ) (a : ℕ) → memory.Same m n a → memory_byte m a ≡ memory_byte n a
-memory_byte_lem m n a s = ap₂ (λ (t : Bool) (x : ℕ). if t then There x else Nowhere) s.there s.byte
+memory_byte_lem m n a s = ap₂ (λ (t : Bool) (x : ℕ). if t then Some x else None) s.there s.byte
 
 seen_byte : (sb : List Store) (p q : Ports) (m n : List ℕ) (a : ℕ) → page a < 4096 → memory.Same m n a → ms sb p m a ≡ ms sb q n a
 unfolding ms_of beneath
-seen_byte sb p q m n a l s = rw (low_local a l, low_io a l) (ap (λ (r : Read). if sbhit sb a then sbv sb a else r) (memory_byte_lem m n a s))
+seen_byte sb p q m n a l s = rw (low_local a l, low_io a l) (ap (λ (r : Option ℕ). if sbhit sb a then sbv sb a else r) (memory_byte_lem m n a s))
 
 module _ (S : Pages) (L : Low S) (m n : List ℕ) (A : Agree (reached S) m n) where
   module _ (a k : ℕ) (h : In (page a) (reached S)) (f : Fits a k) where
@@ -101,7 +98,7 @@ module _ (S : Pages) (L : Low S) (m n : List ℕ) (A : Agree (reached S) m n) wh
     pub loaded_same : (sb : List Store) (p q : Ports) → loaded sb p m a k ≡ loaded sb q n a k
     unfolding loaded
     loaded_same sb p q =
-        ap (λ (r : Read). if sbhazard sb a k then Hazard else on_read (maxsbhit sb a) r)
+        ap (λ (r : Option ℕ). if sbhazard sb a k then Err LoadError.Hazard else on_read (maxsbhit sb a) r)
         (reads_same k (ms sb p m) (ms sb q n) a (omega (arith, low_page)) (λ j x y. seen_byte sb p q m n j (omega (arith, low_page)) (same_at j x y)))
 
   there_same : (k a : ℕ) → ((j : ℕ) → a ≤ j → j < a + k → memory.Same m n j) → all_there k (length m) a ≡ all_there k (length n) a
@@ -206,16 +203,16 @@ module _ (S : Pages) (L : Low S) (b : List ℕ) (G : Good S b) where
       instruction_same w_r c w =
           same_ask (test (finds_buffer (stores b) c) ∷ []) _ _ (λ _. same_if (is_access c) _ _ _ _ (λ e. access_same w_r c w e) (λ _. same_refl (yield (without_access X c w))))
 
-      word_on : (w_r : Walk) (r : Read) → Same (on_word X io m w_r r) (on_word X io' n w_r r)
+      word_on : (w_r : Walk) (r : Option ℕ) → Same (on_word X io m w_r r) (on_word X io' n w_r r)
       unfolding on_word
-      word_on w_r (There w) = instruction_same w_r (decoded w) w
-      word_on w_r Nowhere = same_refl _
+      word_on w_r (Some w) = instruction_same w_r (decoded w) w
+      word_on w_r None = same_refl _
 
       fetched_same : (w_r : Walk) (a : ℕ) → In (page a) (reached S) → a % 4 ≡ 0 → Same (on_fetch_address X io m w_r a) (on_fetch_address X io' n w_r a)
       unfolding on_fetch_address
       fetched_same w_r a h q =
           same_ask (test (not (is_port a)) ∷ []) _ _
-          (λ _. subst (λ (r : Read). Same (on_word X io m w_r (reads 4 (memory_byte m) a)) (on_word X io' n w_r r))
+          (λ _. subst (λ (r : Option ℕ). Same (on_word X io m w_r (reads 4 (memory_byte m) a)) (on_word X io' n w_r r))
           (word_same S L m n A a 4 h (aligned_fits a 4 (word_aligned a q)))
           (word_on w_r (reads 4 (memory_byte m) a)))
 
@@ -243,7 +240,7 @@ module _ (S : Pages) (L : Low S) (b : List ℕ) (G : Good S b) where
       core_same : (w_i w_r : Walk) → core_plan X io m w_i w_r ≡ core_plan X io' n w_i w_r
       unfolding core_plan judged
       core_same w_i w_r =
-          settle_same refused _ _
+          settle_same _ _
           (same_ask (test X.running ∷ []) _ _
           (λ _. same_if (eqb ((registers_of b).pc % 4) 0) _ _ _ _
           (λ e. fetch_same w_i w_r (eqb-true ((registers_of b).pc % 4) 0 e))
@@ -271,7 +268,7 @@ module _ (S : Pages) (L : Low S) (b : List ℕ) (G : Good S b) where
           = inside_same (reached S) m n A x.address x.width (writable_reached S (page x.address) h.0.writable) h.0.fits in
           rw p
 
-      pub plan_same : {k : ℕ} {x : Step} (o : Plain k x) → plan_of o b io m ≡ plan_of o b io' n
+      pub plan_same : {k : ℕ} {x : Option Step} (o : Plain k x) → plan_of o b io m ≡ plan_of o b io' n
       plan_same (plans.runs v w) = core_same v w
       plan_same (plans.create va l) = refl
       plan_same (plans.extend w) = ap (planned (walks b) (is_free b)) (extend_same w)

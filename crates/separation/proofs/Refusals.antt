@@ -1,5 +1,7 @@
 -- Whose refusals: the count of a refused step lies in the block of the core that the step names, or in the header.
 -- Assumes nothing.
+use Rattle.std.specs.Prelude.{Err}
+use Rattle.refusals.specs.declared.Refusal.{Refusal}
 use mathlib.Core.Path.{◌≡◌, sym, ap, ◌∙◌}
 use mathlib.Core.Logic.{◌≢◌}
 use mathlib.Core.Bool.{true, false}
@@ -12,7 +14,6 @@ use Rattle.layout.specs.Layout as at
 use Rattle.layout.specs.Blocks.{block}
 use Rattle.tables.specs.Views.{cores_of, core_refusals_of}
 use Rattle.tables.proofs.Places.{run_same}
-use Rattle.steps.specs.declared.Answer.TheVariants.{Refused}
 use Rattle.steps.specs.Form.{word, count_at}
 use Rattle.steps.proofs.Whose.{by_count}
 use Rattle.machine.specs.Step as operation
@@ -33,11 +34,11 @@ counts n k s = by_count (λ (i : ℕ). i ≡ at.block_at k + at.core_refusals �
 elsewhere : (n k i : ℕ) (s : List ℕ) → word s 1 ≢ k → at.block_at k ≤ i → i < at.block_at k + at.block_words → i ≢ count_at n s
 elsewhere n k i s d p q = by_count (λ (j : ℕ). i ≢ j) n s (omega arith) (λ h. omega (arith, d))
 
-unseen : (g : ℕ) (t m s : List ℕ) (number : ℕ) → (operation.step t m s).answer ≡ Refused number → is_own g s ≡ false
+unseen : (g : ℕ) (t m s : List ℕ) (r : Refusal) → (operation.step t m s).answer ≡ Err r → is_own g s ≡ false
     → (k : ℕ) → is_set g k ≡ true → block (operation.step t m s).tables k ≡ block t k
 unfolding block
-unseen g t m s number e o k h =
-    let R = (refused_count t m s number e).1 in
+unseen g t m s r e o k h =
+    let R = (refused_count t m s r e).1 in
     let d : word s 1 ≢ k = λ q. true_false (sym h ∙ ap (is_set g) (sym q) ∙ o) in
     run_same t (operation.step t m s).tables (at.block_at k) at.block_words R.long (λ i p q. R.same i (elsewhere (cores_of t) k i s d p q))
 

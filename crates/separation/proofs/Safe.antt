@@ -1,6 +1,8 @@
 -- A step writes only where its side may, and its block stays good unless it takes an interrupt.
 -- Assumes nothing.
-use Rattle.std.specs.Prelude.{if◌then◌else◌}
+use Rattle.std.specs.Prelude.{if◌then◌else◌, Option, Some, None, Result, Ok, Err, IfOk}
+use Rattle.refusals.specs.declared.Refusal.{Refusal}
+use Rattle.refusals.specs.declared.Refusal.TheVariants.{NoNextState, ByteNowhere, StoresFull, WalksFull, NoFreeRecord}
 use mathlib.Core.Path.{◌≡◌, refl, sym, ap, subst, ◌∙◌}
 use mathlib.Core.Logic.{⊎_elim}
 use mathlib.Core.Bool.{Bool, true, false, ◌&&◌, ◌||◌, not, false≢true, true≢false}
@@ -29,20 +31,16 @@ use Rattle.records.specs.declared.Flush.TheVariants.{All, Incomplete}
 use Rattle.records.specs.Records.{stores, walks, among}
 use Rattle.records.specs.Contents.{all_there}
 use Rattle.tables.specs.Views.{registers_of, user_mode, runs, asid_of}
-use Rattle.tlb.specs.declared.Entry.{Entry}
-use Rattle.tlb.specs.declared.Entry.TheVariants.{Word, Missing}
-use Rattle.tlb.specs.declared.Decision.{Decision}
-use Rattle.tlb.specs.declared.Decision.TheVariants as decision
+use Rattle.tlb.specs.declared.Change.{Change}
+use Rattle.tlb.specs.declared.Change.TheVariants as tlbs
 use Rattle.tlb.specs.declared.Faulting.{Faulting}
 use Rattle.tlb.specs.declared.Faulting.TheVariants.{Faults, Passes, Undecided}
 use Rattle.tlb.specs.Walks.{base_address, page_key, walk_va, walk_asid, walk_level, walk_r, walk_ba, index, ptea_at, entry_at, pte_a, pte_p, pte_r, pte_ba, wext_fault, complete, hit, suffices, store_r, load_r, pte, ptea, winit, wext, set_d}
 use Rattle.tlb.specs.Steps.{origin_of, extendable, on_extend, tlb_extend, on_accessed, tlb_accessed, tlb_create, create_on, extend_on, accessed_on}
 use Rattle.tlb.proofs.Fields.{Fields, winit_fields, wext_fields, wext_present, first_lt, incomplete_level, index_lt, ptea_aligned}
 use Rattle.tlb.proofs.Steps.{entry_word, create_adds, Extended, extend_adds, Marked, accessed_marks, is_held, is_incomplete}
-use Rattle.store_buffer.specs.declared.Read.{Read}
-use Rattle.store_buffer.specs.declared.Read.TheVariants.{There, Nowhere}
 use Rattle.store_buffer.specs.declared.Loaded.{Loaded}
-use Rattle.store_buffer.specs.declared.Loaded.TheVariants as load-variants
+use Rattle.store_buffer.specs.declared.LoadError.{LoadError}
 use Rattle.store_buffer.specs.declared.Place.TheVariants as to
 use Rattle.store_buffer.specs.Leaving.{place_of}
 use Rattle.store_buffer.specs.System.{is_port, memory_byte, reads, loaded}
@@ -59,7 +57,7 @@ use Rattle.cores.specs.declared.WalkChange.TheVariants.{Add, Drop}
 use Rattle.cores.specs.declared.Write.{Write}
 use Rattle.cores.specs.declared.Write.TheVariants.{Memory}
 use Rattle.cores.specs.declared.Plan.{Plan}
-use Rattle.cores.specs.Plans.{refused, done, interrupted, changed, finished}
+use Rattle.cores.specs.Plans.{done, interrupted, changed, finished}
 use Rattle.cores.specs.TlbSteps.{adding, planned}
 use Rattle.cores.specs.BufferStep.{leaves_to, on_oldest, buffer_step}
 use Rattle.cores.specs.Commit.{written_to}
@@ -87,11 +85,15 @@ WalksOk S WalkChange.Nothing = Unit {0}
 WalksOk S (Add w) = WalkOk S w
 WalksOk S (Drop f) = Unit {0}
 
-pub record Safe (S : Pages) (m b : List ℕ) (p : Plan) : Type 0 where
-  pub special : is_interrupt p.answer ≡ false → (registers_after p.core (registers_of b)).spr ≡ (registers_of b).spr
+pub record PlanSafe (S : Pages) (m b : List ℕ) (p : Plan) : Type 0 where
+  pub special : is_interrupt (Ok p.answer) ≡ false → (registers_after p.core (registers_of b)).spr ≡ (registers_of b).spr
   pub puts : BufferOk S p.buffer
   pub adds : WalksOk S p.walks
   pub kept : Kept (table_pages S) S.writables m (written_to p.write m)
+
+-- what is decided: such a plan, or a refusal
+abbrev pub Safe : Pages → List ℕ → List ℕ → Result Plan Refusal → Type 0
+Safe S m b r = IfOk r (PlanSafe S m b)
 
 -- ---- in user mode an instruction that is not interrupted leaves the special registers
 
@@ -137,17 +139,14 @@ module _ (S : Pages) (L : Low S) (m b : List ℕ) (bs : Bytes m) (G : Good S b) 
   unfolding written_to
   quietly = kept_refl _ _ m
 
-  refused_safe : (n : ℕ) → Safe S m b (refused n)
-  refused_safe n = record { special = λ _. refl; puts = tt; adds = tt; kept = quietly }
-
-  stopped_safe : (v : View) (w ca : ℕ) (ws : WalkChange) → WalksOk S ws → Safe S m b (stopped v w ca ws)
+  stopped_safe : (v : View) (w ca : ℕ) (ws : WalkChange) → WalksOk S ws → PlanSafe S m b (stopped v w ca ws)
   stopped_safe v w ca ws h = record { special = λ e. absurd (true≢false e); puts = tt; adds = h; kept = quietly }
 
   finished_safe : (i : Instruction) (w R ca k : ℕ) (c : BufferChange) (ws : WalkChange) (x : Write) → (jisr ca ≡ false → movg2s i || eret i ≡ false)
-      → BufferOk S c → WalksOk S ws → Kept (table_pages S) S.writables m (written_to x m) → Safe S m b (finished i w R ca k c ws x)
+      → BufferOk S c → WalksOk S ws → Kept (table_pages S) S.writables m (written_to x m) → PlanSafe S m b (finished i w R ca k c ws x)
   unfolding finished
   finished_safe i w R ca k c ws x f p q r =
-      if_both (Safe S m b) (jisr ca) (interrupted w R ca k c ws x) (record { answer = Done; core = changed i w R; buffer = c; walks = ws; write = x })
+      if_both (PlanSafe S m b) (jisr ca) (interrupted w R ca k c ws x) (record { answer = Done; core = changed i w R; buffer = c; walks = ws; write = x })
       (λ _. record { special = λ e. absurd (true≢false e); puts = p; adds = q; kept = r })
       (λ e. record { special = λ _. leaves_special i w R (registers_of b) (f e); puts = p; adds = q; kept = r })
 
@@ -162,21 +161,21 @@ module _ (S : Pages) (L : Low S) (m b : List ℕ) (bs : Bytes m) (G : Good S b) 
     kind_kept c w pfls j = not_special c (no_privilege c (registers_of b) w (is_event X.eev) pfls U j)
 
     module _ (c : Instruction) (w : ℕ) where
-      load_safe : (r : Loaded) → Safe S m b (on_load X c w (causes X c w false) r)
-      load_safe (load-variants.Value x h) = finished_safe c w x _ _ BufferChange.Nothing WalkChange.Nothing Write.Nothing (kind_kept c w false) tt tt quietly
-      load_safe load-variants.Nowhere = refused_safe 7
-      load_safe load-variants.Hazard = refused_safe 6
+      load_safe : (r : Result Loaded LoadError) → Safe S m b (on_load X c w (causes X c w false) r)
+      load_safe (Ok l) = finished_safe c w l.value _ _ BufferChange.Nothing WalkChange.Nothing Write.Nothing (kind_kept c w false) tt tt quietly
+      load_safe (Err LoadError.Nowhere) = tt
+      load_safe (Err LoadError.Hazard) = tt
 
       store_safe : (x : Store) (t : Bool) → StoreOk S x → Safe S m b (on_store X c w (causes X c w false) x t)
       store_safe x t h =
-          if_both (Safe S m b) (not t) (refused 7) _ (λ _. refused_safe 7)
-          (λ _. if_both (Safe S m b) (leb 8 (length (stores b))) (refused 8) _ (λ _. refused_safe 8)
-          (λ _. if_both (Safe S m b) (not X.free) (refused 10) _ (λ _. refused_safe 10)
+          if_both (Safe S m b) (not t) (Err ByteNowhere) _ (λ _. tt)
+          (λ _. if_both (Safe S m b) (leb 8 (length (stores b))) (Err StoresFull) _ (λ _. tt)
+          (λ _. if_both (Safe S m b) (not X.free) (Err NoFreeRecord) _ (λ _. tt)
           (λ _. finished_safe c w 0 _ _ (Put x) WalkChange.Nothing Write.Nothing (kind_kept c w false) h tt quietly)))
 
-      cas_safe : (a : ℕ) (r : Read) → In (page a) S.writables → Fits a 4 → Safe S m b (on_cas X c w (causes X c w false) a r)
-      cas_safe a Nowhere h f = refused_safe 7
-      cas_safe a (There x) h f =
+      cas_safe : (a : ℕ) (r : Option ℕ) → In (page a) S.writables → Fits a 4 → Safe S m b (on_cas X c w (causes X c w false) a r)
+      cas_safe a None h f = tt
+      cas_safe a (Some x) h f =
           finished_safe c w x _ _ BufferChange.Nothing WalkChange.Nothing (exchanged (registers_of b) w x a) (kind_kept c w false) tt tt
           (if_both (λ (y : Write). Kept (table_pages S) S.writables m (written_to y m)) (eqb x (gpr_at (registers_of b) (rd w))) (Memory a 4 (gpr_at (registers_of b) (rt w))) Write.Nothing
           (λ _. unfold written_to in put_free (table_pages S) S.writables 4 m a (gpr_at (registers_of b) (rt w)) (λ j p q. subst (λ (y : ℕ). In y S.writables) (sym (same_page a 4 j f p q)) h))
@@ -216,7 +215,7 @@ module _ (S : Pages) (L : Low S) (m b : List ℕ) (bs : Bytes m) (G : Good S b) 
               last : hit (data_request_of (registers_of b) c w) w_r ≡ true → suffices (if store c || cas c then store_r else load_r) (walk_r w_r) ≡ true
               last e = unfold hit in and_right (eqb (walk_asid w_r) _) _ (and_right (eqb (walk_va w_r) _) _ (unfold hit in e))
       data_safe w_r Faults x h k = judges_yield (Safe S m b) _ (stopped_safe X w (causes X c w true) (faulted (registers_of b) (ea c (registers_of b) w)) tt)
-      data_safe w_r Undecided x h k = record { met = λ _. refused_safe 7 }
+      data_safe w_r Undecided x h k = record { met = λ _. tt }
 
       access_safe : (w_r : Walk) → is_access c ≡ true → Judges (Safe S m b) (on_access X io m w_r c w)
       unfolding on_access
@@ -244,10 +243,10 @@ module _ (S : Pages) (L : Low S) (m b : List ℕ) (bs : Bytes m) (G : Good S b) 
           judges_ask (Safe S m b) (test (finds_buffer (stores b) c) ∷ []) _
           (λ _. judges_if (Safe S m b) (is_access c) _ _ (λ e. access_safe w_r e) (λ _. judges_yield (Safe S m b) (without_access X c w) without_safe))
 
-    word_safe : (w_r : Walk) (r : Read) → Judges (Safe S m b) (on_word X io m w_r r)
+    word_safe : (w_r : Walk) (r : Option ℕ) → Judges (Safe S m b) (on_word X io m w_r r)
     unfolding on_word
-    word_safe w_r (There w) = instruction_safe (decoded w) w w_r
-    word_safe w_r Nowhere = record { met = λ _. refused_safe 7 }
+    word_safe w_r (Some w) = instruction_safe (decoded w) w w_r
+    word_safe w_r None = record { met = λ _. tt }
 
     fetch_safe : (w_i w_r : Walk) (f : Faulting) → Judges (Safe S m b) (on_fetch X io m w_i w_r f)
     unfolding on_fetch on_fetch_address
@@ -255,12 +254,12 @@ module _ (S : Pages) (L : Low S) (m b : List ℕ) (bs : Bytes m) (G : Good S b) 
         judges_test (Safe S m b) (not (user (registers_of b)) || complete w_i) _
         (λ _. judges_ask (Safe S m b) (test (not (is_port (physical X w_i (registers_of b).pc))) ∷ []) _ (λ _. word_safe w_r (reads 4 (memory_byte m) (physical X w_i (registers_of b).pc))))
     fetch_safe w_i w_r Faults = judges_yield (Safe S m b) _ (stopped_safe X 0 (causes_without X false true) (faulted (registers_of b) (registers_of b).pc) tt)
-    fetch_safe w_i w_r Undecided = record { met = λ _. refused_safe 7 }
+    fetch_safe w_i w_r Undecided = record { met = λ _. tt }
 
     core_safe : (w_i w_r : Walk) → Safe S m b (core_plan X io m w_i w_r)
     unfolding core_plan judged fetch
     core_safe w_i w_r =
-        judges_settle (Safe S m b) refused _ refused_safe
+        judges_settle (Safe S m b) _ (λ _. tt)
         (judges_ask (Safe S m b) (test X.running ∷ []) _
         (λ _. judges_if (Safe S m b) (eqb ((registers_of b).pc % 4) 0) _ _
         (λ _. judges_ask (Safe S m b) (test (not (user (registers_of b)) || (among w_i (walks b) && hit (fetch_request_of (registers_of b)) w_i)) ∷ []) _
@@ -272,16 +271,16 @@ module _ (S : Pages) (L : Low S) (m b : List ℕ) (bs : Bytes m) (G : Good S b) 
   adding_safe : (w : Walk) → WalkOk S w → Safe S m b (adding (walks b) (is_free b) w)
   unfolding adding
   adding_safe w h =
-      if_both (Safe S m b) (not (among w (walks b)) && leb 23 (length (walks b))) (refused 9) _ (λ _. refused_safe 9)
-      (λ _. if_both (Safe S m b) (not (among w (walks b)) && not (is_free b)) (refused 10) (done BufferChange.Nothing (Add w) Write.Nothing) (λ _. refused_safe 10)
+      if_both (Safe S m b) (not (among w (walks b)) && leb 23 (length (walks b))) (Err WalksFull) _ (λ _. tt)
+      (λ _. if_both (Safe S m b) (not (among w (walks b)) && not (is_free b)) (Err NoFreeRecord) (Ok (done BufferChange.Nothing (Add w) Write.Nothing)) (λ _. tt)
       (λ _. record { special = λ _. refl; puts = tt; adds = h; kept = quietly }))
 
-  planned_safe : (e : Decision) → ((w : Walk) → e ≡ decision.Adds w → WalkOk S w) → ((a v : ℕ) → e ≡ decision.Marks a v → Kept (table_pages S) S.writables m (written_to (Memory a 4 v) m))
+  planned_safe : (e : Result Change Refusal) → ((w : Walk) → e ≡ Ok (tlbs.Adds w) → WalkOk S w) → ((a v : ℕ) → e ≡ Ok (tlbs.Marks a v) → Kept (table_pages S) S.writables m (written_to (Memory a 4 v) m))
       → Safe S m b (planned (walks b) (is_free b) e)
   unfolding planned
-  planned_safe (decision.Refused n) f g = refused_safe n
-  planned_safe (decision.Adds w) f g = adding_safe w (f w refl)
-  planned_safe (decision.Marks a v) f g = record { special = λ _. refl; puts = tt; adds = tt; kept = g a v refl }
+  planned_safe (Err r) f g = tt
+  planned_safe (Ok (tlbs.Adds w)) f g = adding_safe w (f w refl)
+  planned_safe (Ok (tlbs.Marks a v)) f g = record { special = λ _. refl; puts = tt; adds = tt; kept = g a v refl }
 
   -- tlb-create: the origin is a first-level table
   create_safe : (va : ℕ) → va < 2 ^ 20 → Safe S m b (planned (walks b) (is_free b) (create_on b va))
@@ -301,22 +300,22 @@ module _ (S : Pages) (L : Low S) (m b : List ℕ) (bs : Bytes m) (G : Good S b) 
             word = unfold winit in first_lt va (asid_of b) 2 7 (origin_of b) (omega arith) (omega arith) (omega arith) l;
           }
 
-      marks : {a v : ℕ} → create_on b va ≡ decision.Marks a v → ⊥
+      marks : {a v : ℕ} → create_on b va ≡ Ok (tlbs.Marks a v) → ⊥
       marks {a} {v} = unfold tlb_create in go (user_mode b && runs b)
         where
-          go : (t : Bool) → (if t then decision.Adds (winit va (origin_of b) (asid_of b)) else decision.Refused 6) ≡ decision.Marks a v → ⊥
+          go : (t : Bool) → (if t then Ok (tlbs.Adds (winit va (origin_of b) (asid_of b))) else Err NoNextState) ≡ Ok (tlbs.Marks a v) → ⊥
           go true e = let z : ◌≡◌ {A = ℕ} 0 1 = cc in omega arith
           go false e = let z : ◌≡◌ {A = ℕ} 0 1 = cc in omega arith
 
   module _ (C : Closed S m) where
     -- where a present entry leads
-    extended_level : (k r p i e : ℕ) → 1 ≤ k → AtLevel S k r p → i < 1024 → entry_at m (ptea_at p i) ≡ Word e → pte_p e ≡ true → AtLevel S (k - 1) (pte_r e) (pte_ba e)
+    extended_level : (k r p i e : ℕ) → 1 ≤ k → AtLevel S k r p → i < 1024 → entry_at m (ptea_at p i) ≡ Some e → pte_p e ≡ true → AtLevel S (k - 1) (pte_r e) (pte_ba e)
     extended_level zero r p i e l h q w x = absurd (omega arith)
     extended_level (suc zero) r p i e l h q w x = (C.leaf p i e h q w x, C.leaf_write p i e h q w x)
     extended_level (suc (suc zero)) r p i e l h q w x = C.down p i e h q w x
     extended_level (suc (suc (suc k))) r p i e l h q w x = absurd h
 
-    extended_ok : (w : Walk) (e : ℕ) → WalkOk S w → complete w ≡ false → entry_at m (ptea w) ≡ Word e → pte_p e ≡ true → WalkOk S (wext w e)
+    extended_ok : (w : Walk) (e : ℕ) → WalkOk S w → complete w ≡ false → entry_at m (ptea w) ≡ Some e → pte_p e ≡ true → WalkOk S (wext w e)
     unfolding ptea
     extended_ok w e k c h x =
         let F : Fields (wext w e) (walk_va w) (walk_asid w) (walk_level w - 1) (pte_r e) (pte_ba e) = wext_fields w e x in
@@ -339,16 +338,16 @@ module _ (S : Pages) (L : Low S) (m b : List ℕ) (bs : Bytes m) (G : Good S b) 
         (extended_ok w E.word (held_ok S L b G w (is_held (runs b) (asid_of b) (walks b) w E.guards)) (is_incomplete (runs b) (asid_of b) (walks b) w E.guards) E.entry E.present))
         (λ a v e. absurd (marks a v e))
       where
-        marks : (a v : ℕ) → extend_on b m w ≡ decision.Marks a v → ⊥
+        marks : (a v : ℕ) → extend_on b m w ≡ Ok (tlbs.Marks a v) → ⊥
         marks a v = unfold tlb_extend in outer (runs b && extendable (asid_of b) (walks b) w) (pte m w)
           where
-            inner : (x : ℕ) (t : Bool) → (if t then decision.Adds (wext w x) else decision.Refused 6) ≡ decision.Marks a v → ⊥
+            inner : (x : ℕ) (t : Bool) → (if t then Ok (tlbs.Adds (wext w x)) else Err NoNextState) ≡ Ok (tlbs.Marks a v) → ⊥
             inner x true e = let z : ◌≡◌ {A = ℕ} 0 1 = cc in omega arith
             inner x false e = let z : ◌≡◌ {A = ℕ} 0 1 = cc in omega arith
 
-            outer : (t : Bool) (y : Entry) → (if t then on_extend w y else decision.Refused 6) ≡ decision.Marks a v → ⊥
-            outer true (Word x) e = inner x (pte_a x && not (wext_fault x 0)) (unfold on_extend in e)
-            outer true Missing e = let f : decision.Refused 7 ≡ decision.Marks a v = unfold on_extend in e in let z : ◌≡◌ {A = ℕ} 0 1 = cc in omega arith
+            outer : (t : Bool) (y : Option ℕ) → (if t then on_extend w y else Err NoNextState) ≡ Ok (tlbs.Marks a v) → ⊥
+            outer true (Some x) e = inner x (pte_a x && not (wext_fault x 0)) (unfold on_extend in e)
+            outer true None e = let f : Err ByteNowhere ≡ Ok (tlbs.Marks a v) = unfold on_extend in e in let z : ◌≡◌ {A = ℕ} 0 1 = cc in omega arith
             outer false y e = let z : ◌≡◌ {A = ℕ} 0 1 = cc in omega arith
 
     marked_kept : (w : Walk) (a v : ℕ) → a ≡ ptea w → v ≡ set_d (bytes_at 4 m (ptea w)) → In (page (ptea w)) (table_pages S) → Kept (table_pages S) S.writables m (written_to (Memory a 4 v) m)
@@ -366,23 +365,23 @@ module _ (S : Pages) (L : Low S) (m b : List ℕ) (bs : Bytes m) (G : Good S b) 
         let value : v ≡ set_d (bytes_at 4 m (ptea w)) = M.value ∙ ap set_d (entry_word m (ptea w) M.entry).0 in
         marked_kept w a v M.address value (subst (λ (p : ℕ). In p (table_pages S)) (sym (walk_page S L w k l)) (walk_table S L w k l)))
       where
-        adds : (v : Walk) → accessed_on b m w ≡ decision.Adds v → ⊥
+        adds : (v : Walk) → accessed_on b m w ≡ Ok (tlbs.Adds v) → ⊥
         adds v = unfold tlb_accessed in outer (user_mode b && extendable (asid_of b) (walks b) w) (pte m w)
           where
-            inner : (x : ℕ) (t : Bool) → (if t then decision.Marks (ptea w) (set_d x) else decision.Refused 6) ≡ decision.Adds v → ⊥
+            inner : (x : ℕ) (t : Bool) → (if t then Ok (tlbs.Marks (ptea w) (set_d x)) else Err NoNextState) ≡ Ok (tlbs.Adds v) → ⊥
             inner x true e = let z : ◌≡◌ {A = ℕ} 0 1 = cc in omega arith
             inner x false e = let z : ◌≡◌ {A = ℕ} 0 1 = cc in omega arith
 
-            outer : (t : Bool) (y : Entry) → (if t then on_accessed w y else decision.Refused 6) ≡ decision.Adds v → ⊥
-            outer true (Word x) e = inner x (pte_p x) (unfold on_accessed in e)
-            outer true Missing e = let f : decision.Refused 7 ≡ decision.Adds v = unfold on_accessed in e in let z : ◌≡◌ {A = ℕ} 0 1 = cc in omega arith
+            outer : (t : Bool) (y : Option ℕ) → (if t then on_accessed w y else Err NoNextState) ≡ Ok (tlbs.Adds v) → ⊥
+            outer true (Some x) e = inner x (pte_p x) (unfold on_accessed in e)
+            outer true None e = let f : Err ByteNowhere ≡ Ok (tlbs.Adds v) = unfold on_accessed in e in let z : ◌≡◌ {A = ℕ} 0 1 = cc in omega arith
             outer false y e = let z : ◌≡◌ {A = ℕ} 0 1 = cc in omega arith
 
     -- ---- the store buffer: the oldest store goes to a page that its side may write
 
     drain_safe : (l : List Store) → Each (StoreOk S) l → Safe S m b (buffer_step l (length m))
     unfolding on_oldest place_of
-    drain_safe [] h = refused_safe 6
+    drain_safe [] h = tt
     drain_safe (x ∷ l) h =
         rw (low_local x.address (L (page x.address) (writable_reached S (page x.address) h.0.writable)), low_io x.address (L (page x.address) (writable_reached S (page x.address) h.0.writable)))
         (unfold leaves_to in go (leb (x.address + x.width) (length m)))
@@ -397,12 +396,12 @@ module _ (S : Pages) (L : Low S) (m b : List ℕ) (bs : Bytes m) (G : Good S b) 
               kept = unfold written_to in put_free (table_pages S) S.writables x.width m x.address x.value
                   (λ j p q. subst (λ (y : ℕ). In y S.writables) (sym (same_page x.address x.width j h.0.fits p q)) h.0.writable);
             }
-        go false = unfold leaves_to in refused_safe 7
+        go false = unfold leaves_to in tt
 
-    pub plan_safe : {k : ℕ} {x : Step} (o : Plain k x) (io : IoPorts) → Safe S m b (plan_of o b io m)
+    pub plan_safe : {k : ℕ} {x : Option Step} (o : Plain k x) (io : IoPorts) → Safe S m b (plan_of o b io m)
     plan_safe (plans.runs v w) io = core_safe io v w
     plan_safe (plans.create va l) io = create_safe va l
     plan_safe (plans.extend w) io = extend_safe w
     plan_safe (plans.accessed w) io = accessed_safe w
     plan_safe plans.drain io = drain_safe (stores b) G.pending
-    plan_safe plans.none io = refused_safe 5
+    plan_safe plans.none io = tt

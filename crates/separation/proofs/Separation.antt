@@ -13,7 +13,7 @@ use Rattle.layout.specs.Blocks.{block}
 use Rattle.tables.specs.Views.{cores_of, pages_of}
 use Rattle.reach.specs.Lists.{range, has, select}
 use Rattle.reach.specs.Reach.{Pages, reached, reach, in_memory, members}
-use Rattle.separation.specs.declared.Verdict.TheVariants.{Yes}
+use Rattle.std.specs.Prelude.{Ok}
 use Rattle.separation.specs.Separation.{Machine, Given, verdict, Point, Observation, start, called, next, after_calls, may, admitted, is_own, page_of, seen, observed, observes, group, reachable, Alike, Framed, Demand3}
 use Rattle.reach.proofs.Lists.{In, in_range, in_select, select_in, same_map}
 use Rattle.separation.proofs.TwoLists.{trace, allowed, two_lists, kept_after}
@@ -43,7 +43,7 @@ unfolding after_calls lists.reached
 after_is x [] = refl
 after_is x (s ∷ l) = after_is (next x s) l
 
-frame : (g : ℕ) (M : Machine) → Given M → verdict g M ≡ Yes → (l : List (List ℕ)) → admitted (start M) l ≡ true → (n : ℕ) → Framed g M (after_calls (start M) (take n l))
+frame : (g : ℕ) (M : Machine) → Given M → verdict g M ≡ Ok true → (l : List (List ℕ)) → admitted (start M) l ≡ true → (n : ℕ) → Framed g M (after_calls (start M) (take n l))
 frame g M I e l q n =
     subst (Framed g M) (sym (after_is (start M) (take n l)))
     (framed g M I e (lists.reached next may (start M) (take n l))
@@ -53,7 +53,7 @@ frame g M I e l q n =
 
 -- ---- the two lists
 
-module _ (g : ℕ) (M N : Machine) (I : Given M) (J : Given N) (e : verdict g M ≡ Yes) (f : verdict g N ≡ Yes) (v : Alike g M N) where
+module _ (g : ℕ) (M N : Machine) (I : Given M) (J : Given N) (e : verdict g M ≡ Ok true) (f : verdict g N ≡ Ok true) (v : Alike g M N) where
   cores_same : group g M ≡ group g N
   cores_same = members_same g (cores_of M.tables) (cores_of N.tables) (conditions g M I e).is_group_lem (conditions g N J f).is_group_lem
 

@@ -1,4 +1,5 @@
--- The invariant of a machine within a list, relative to the machine that the list began with, and what steps do to two machines.
+-- The invariant of a machine within a list, relative to the machine that the list began with, and what steps do to two
+-- machines.
 -- Assumes nothing.
 use Rattle.std.specs.Prelude.{if◌then◌else◌}
 use mathlib.Core.Path.{◌≡◌, sym, subst, ◌∙◌}

@@ -1,6 +1,6 @@
 -- The operation Apart (01).
 -- Assumes nothing.
-use Rattle.std.specs.Prelude.{if◌then◌else◌, Bool, ◌&&◌, not, List, ◌++◌, ℕ, zero, suc, ◌+◌, length}
+use Rattle.std.specs.Prelude.{if◌then◌else◌, Bool, ◌&&◌, not, List, ◌++◌, ℕ, zero, suc, ◌+◌, length, Result, Ok, Err}
 use Rattle.word.specs.Word.{is_set, flag, with_bit}
 use Rattle.layout.specs.Blocks.{block}
 use Rattle.records.specs.Records.{all}
@@ -8,8 +8,9 @@ use Rattle.tables.specs.Views.{cores_of, pages_of, user_mode, runs}
 use Rattle.tables.specs.Sound.{sound}
 use Rattle.reach.specs.Lists.{range, has, select}
 use Rattle.reach.specs.Reach.{Pages, is_group, members, reach, table_pages, reached, in_memory}
-use Rattle.separation.specs.declared.Verdict.{Verdict}
-use Rattle.separation.specs.declared.Verdict.TheVariants.{No, Yes, Refused}
+use Rattle.refusals.specs.declared.Refusal.{Refusal}
+use Rattle.refusals.specs.declared.Refusal.TheVariants.{Unsound, Group}
+use Rattle.refusals.specs.Numbers.{number}
 
 -- the running cores
 unfoldable pub running_cores : List ℕ → List ℕ
@@ -39,8 +40,8 @@ disjoint l r = all (λ x. not (has x r)) l
 abbrev pub closed : Pages → Bool
 closed S = disjoint S.writables (table_pages S)
 
--- the group's pages S and the rest's T, beside a memory of n pages: neither side reaches a page beyond memory, no page is both writable and
--- table for one side, and no page reached by the group is writable or table for the rest
+-- the group's pages S and the rest's T, beside a memory of n pages: neither side reaches a page beyond memory, no page
+-- is both writable and table for one side, and no page reached by the group is writable or table for the rest
 unfoldable pub pages_apart : ℕ → Pages → Pages → Bool
 pages_apart n S T =
     (in_memory S n && in_memory T n) && ((closed S && closed T) && disjoint (reached S) (T.writables ++ table_pages T))
@@ -53,15 +54,13 @@ apart g t m =
 
 -- ---- the operation
 
-unfoldable pub apart_on : ℕ → List ℕ → List ℕ → Verdict
+unfoldable pub apart_on : ℕ → List ℕ → List ℕ → Result Bool Refusal
 apart_on g t m =
-    if not (sound t (length m)) then Refused 4
-    else if not (is_group g (cores_of t)) then Refused 13
-    else if apart g t m then Yes
-    else No
+    if not (sound t (length m)) then Err Unsound
+    else if not (is_group g (cores_of t)) then Err Group
+    else Ok (apart g t m)
 
 -- the number for each verdict: 0 no, 1 yes, 100 and 01's number of a refusal
-abbrev pub verdict_number : Verdict → ℕ
-verdict_number No = 0
-verdict_number Yes = 1
-verdict_number (Refused n) = 100 + n
+abbrev pub verdict_number : Result Bool Refusal → ℕ
+verdict_number (Ok b) = flag b
+verdict_number (Err r) = 100 + number r

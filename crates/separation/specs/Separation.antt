@@ -1,21 +1,21 @@
 -- Demand 3 (01, 'What demand 3 compares'): whatever the other cores hold and do, a group of cores found apart observes
--- the same. A core's count of refusals, word 115 of its block (02, 'Whose refusals?'), is among what its group sees, and
--- another group's refusals never show there: `Refusals`, below.
+-- the same. A core's count of refusals, word 115 of its block (02, 'Whose refusals?'), is among what its group sees,
+-- and another group's refusals never show there: `Refusals`, below.
 -- Assumes nothing.
-use Rattle.std.specs.Prelude.{if◌then◌else◌, ◌≡◌, ◌⊎◌, Bool, true, false, ◌&&◌, ◌||◌, not, List, [], ◌∷◌, map, ℕ, ◌+◌, ◌*◌, ◌/◌, ◌%◌, ◌^◌, ◌<◌, eqb, leb, length, get_or, take, drop}
+use Rattle.std.specs.Prelude.{if◌then◌else◌, ◌≡◌, ◌⊎◌, Bool, true, false, ◌&&◌, ◌||◌, not, List, [], ◌∷◌, map, ℕ, ◌+◌, ◌*◌, ◌/◌, ◌%◌, ◌^◌, ◌<◌, eqb, leb, length, Result, Ok, get_or, take, drop, Err}
+use Rattle.refusals.specs.declared.Refusal.{Refusal}
 use Rattle.word.specs.Word.{is_set}
 use Rattle.layout.specs.Layout.{page_bytes, block_at, core_refusals}
 use Rattle.layout.specs.Blocks.{block}
 use Rattle.tables.specs.Views.{cores_of, pages_of, user_mode, core_refusals_of}
 use Rattle.tlb.specs.Walks.{set_d}
 use Rattle.steps.specs.declared.Answer.{Answer}
-use Rattle.steps.specs.declared.Answer.TheVariants.{Done, Interrupt, Refused}
+use Rattle.steps.specs.declared.Answer.TheVariants.{Done, Interrupt}
 use Rattle.steps.specs.Form.{word, count_at}
 use Rattle.machine.specs.Step as operation
 use Rattle.reach.specs.Lists.{range, has, select}
 use Rattle.reach.specs.Reach.{members, map_for}
-use Rattle.separation.specs.declared.Verdict.{Verdict}
-use Rattle.separation.specs.declared.Verdict.TheVariants.{Yes}
+use Rattle.refusals.specs.declared.Refusal.{Refusal}
 use Rattle.separation.specs.Apart.{apart_on, running_cores, rest}
 
 -- A machine is its table words, each of 32 bits, and its memory bytes.
@@ -31,7 +31,7 @@ pub record Given (M : Machine) : Type 0 where
   pub bytes : (i : ℕ) → get_or M.memory i 0 < 2 ^ 8
 
 -- what the operation Apart answers for a group
-abbrev pub verdict : ℕ → Machine → Verdict
+abbrev pub verdict : ℕ → Machine → Result Bool Refusal
 verdict g M = apart_on g M.tables M.memory
 
 -- ---- The sides are the group and the rest, the other running cores; an empty rest reaches nothing.
@@ -60,7 +60,8 @@ writable_bit = 2
 abbrev pub either : ℕ → ℕ → Machine → ℕ → Bool
 either bit g M p = is_set (map_byte_of (group g M) M p) bit || is_set (map_byte_of (others g M) M p) bit
 
--- ---- A list holds calls of step, none or any number, and goes on past a refused one. A call is its words, the first two kind and core.
+-- ---- A list holds calls of step, none or any number, and goes on past a refused one. A call is its words, the first
+-- two kind and core.
 
 -- Within a list: the tables and memory that the last call left, and the cores that a call may name.
 pub record Point : Type 0 where
@@ -74,12 +75,13 @@ start M = record { machine = M; going = running_cores M.tables }
 abbrev pub called : Point → List ℕ → operation.Stepped
 called x s = operation.step x.machine.tables x.machine.memory s
 
-abbrev pub is_interrupt : Answer → Bool
-is_interrupt Done = false
-is_interrupt (Interrupt level) = true
-is_interrupt (Refused number) = false
+abbrev pub is_interrupt : Result Answer Refusal → Bool
+is_interrupt (Ok Done) = false
+is_interrupt (Ok (Interrupt level)) = true
+is_interrupt (Err r) = false
 
--- and each later one gets what the last one left, and names a core for which no earlier step of that list answered interrupt.
+-- and each later one gets what the last one left, and names a core for which no earlier step of that list answered
+-- interrupt.
 abbrev pub next : Point → List ℕ → Point
 next x s =
     record {
@@ -91,7 +93,8 @@ unfoldable pub after_calls : Point → List (List ℕ) → Point
 after_calls x [] = x
 after_calls x (s ∷ l) = after_calls (next x s) l
 
--- Each step has kind 0 to 4 and names such a core; its other words are free (a call of more or fewer than six words is refused 5).
+-- Each step has kind 0 to 4 and names such a core; its other words are free (a call of more or fewer than six words is
+-- refused 5).
 abbrev pub may : Point → List ℕ → Bool
 may x s = leb (word s 0) 4 && has (word s 1) x.going
 
@@ -116,18 +119,18 @@ abbrev pub seen : List ℕ → List ℕ → Machine → Observation
 seen cs ps M = record { blocks = map (block M.tables) cs; pages = map (λ p. (p, page_of M.memory p)) ps }
 
 -- and after each of the group's steps: the answer, level or number included, and what it sees.
-unfoldable pub observed : ℕ → List ℕ → List ℕ → Point → List (List ℕ) → List (Answer × Observation)
+unfoldable pub observed : ℕ → List ℕ → List ℕ → Point → List (List ℕ) → List (Result Answer Refusal × Observation)
 observed g cs ps x [] = []
 observed g cs ps x (s ∷ l) =
     if is_own g s then ((called x s).answer, seen cs ps (next x s).machine) ∷ observed g cs ps (next x s) l
     else observed g cs ps (next x s) l
 
 -- what the group observes in a list that begins with M: its cores and pages are those of the machine that was judged
-abbrev pub observes : ℕ → Machine → List (List ℕ) → List (Answer × Observation)
+abbrev pub observes : ℕ → Machine → List (List ℕ) → List (Result Answer Refusal × Observation)
 observes g M l = observed g (group g M) (reachable g M) (start M) l
 
--- Alike: all words of the blocks of the group's cores and all bytes of the pages it reaches in M are equal (that it reaches the same in N follows: pages,
--- below); all else may differ, the header too.
+-- Alike: all words of the blocks of the group's cores and all bytes of the pages it reaches in M are equal (that it
+-- reaches the same in N follows: pages, below); all else may differ, the header too.
 abbrev pub Alike : ℕ → Machine → Machine → Type 0
 Alike g M N = seen (group g M) (reachable g M) M ≡ seen (group g M) (reachable g M) N
 
@@ -144,8 +147,8 @@ pub record Framed (g : ℕ) (M : Machine) (x : Point) : Type 0 where
   -- a core that may step is in user mode.
   pub user : (k : ℕ) → has k x.going ≡ true → user_mode (block x.machine.tables k) ≡ true
 
--- ---- A single claim about the two whole lists: the group reaches the same pages in both and observes the same, its n-th step in one list held against its n-th in
--- the other, and the frame holds after any number of calls of each.
+-- ---- A single claim about the two whole lists: the group reaches the same pages in both and observes the same, its
+-- n-th step in one list held against its n-th in the other, and the frame holds after any number of calls of each.
 pub record Separated (g : ℕ) (M N : Machine) (l r : List (List ℕ)) : Type 0 where
   pub pages : reachable g M ≡ reachable g N
   pub same : observes g M l ≡ observes g N r
@@ -155,12 +158,12 @@ pub record Separated (g : ℕ) (M N : Machine) (l r : List (List ℕ)) : Type 0 
 -- what a verdict of yes on M promises, beside any other machine with that verdict that is alike for the group
 abbrev pub Promised : ℕ → Machine → Type 0
 Promised g M =
-    (N : Machine) → Given N → verdict g N ≡ Yes → Alike g M N
+    (N : Machine) → Given N → verdict g N ≡ Ok true → Alike g M N
     → (l r : List (List ℕ)) → admitted (start M) l ≡ true → admitted (start N) r ≡ true → select (is_own g) l ≡ select (is_own g) r
     → Separated g M N l r
 
 abbrev pub Demand3 : Type 0
-Demand3 = (g : ℕ) (M : Machine) → Given M → verdict g M ≡ Yes → Promised g M
+Demand3 = (g : ℕ) (M : Machine) → Given M → verdict g M ≡ Ok true → Promised g M
 
 -- ---- Whose refusals, on any tables, sound or not, and for calls of any kind and length
 
@@ -172,5 +175,5 @@ pub record Refusals : Type 0 where
   -- the step is the group's.
   pub agrees : (g n k : ℕ) (s : List ℕ) → count_at n s ≡ block_at k + core_refusals → is_own g s ≡ is_set g k
   -- A refused step of a core outside the group leaves every block of the group.
-  pub unseen : (g : ℕ) (t m s : List ℕ) (number : ℕ) → (operation.step t m s).answer ≡ Refused number → is_own g s ≡ false
+  pub unseen : (g : ℕ) (t m s : List ℕ) (r : Refusal) → (operation.step t m s).answer ≡ Err r → is_own g s ≡ false
       → (k : ℕ) → is_set g k ≡ true → block (operation.step t m s).tables k ≡ block t k

@@ -1,5 +1,5 @@
 // The two sides of a group: their cores, and what their maps say of a page (specs/inner/Sides.antt).
-ghost use Rattle.std.specs.Prelude.{◌≡◌, ◌+◌, ◌*◌, ◌≤◌, ◌<◌, length, get_or};
+ghost use Rattle.std.specs.Prelude.{◌≡◌, ◌≤◌, ◌<◌, length, get_or};
 ghost use Rattle.word.specs.Word.{is_set};
 ghost use Rattle.records.specs.Records.{all};
 ghost use Rattle.tables.specs.Views.{cores_of};
@@ -8,7 +8,7 @@ ghost use Rattle.reach.specs.Reach.{members};
 ghost use Rattle.separation.specs.Apart as apart;
 ghost use Rattle.separation.specs.inner.Sides as y;
 
-use layout::CORES;
+use tables::machine::Machine;
 
 // Whether core k is of the group.
 pub fn is_member(group: u32, k: u32) -> bool
@@ -19,45 +19,37 @@ pub fn is_member(group: u32, k: u32) -> bool
 }
 
 // The rest, as a group: the other running cores.
-pub fn rest(t: &[u32], group: u32) -> u32
-    requires { (cores_of t.now ≤ 4) × (32 + 256 * cores_of t.now ≤ length t.now) }
-    ensures value { result ≡ apart.rest_group group t.now }
-    ensures t_value { members result (cores_of t.now) ≡ apart.rest group t.now }
+pub fn rest(machine: &Machine, group: u32) -> u32
+    ensures value { result ≡ apart.rest_group group machine.now.tables.now }
+    ensures members { members result (cores_of machine.now.tables.now) ≡ apart.rest group machine.now.tables.now }
 {
-    let cores = t[CORES];
     let mut r: u32 = 0;
-    let mut k: u32 = 0;
-    while k < cores {
-        let other = !is_member(group, k) & tables::block::runs(layout::block(t, k));
+    for k in 0..machine.cores() {
+        let other = !is_member(group, k) & tables::block::runs(machine.block(k));
         r = word::put_bit(r, k, other as u32);
-        k += 1;
     }
     r
 }
 
 // Whether core k is of neither side, or is running in user mode.
-pub fn passes(t: &[u32], group: u32, k: u32) -> bool
-    requires { (k < 4) × (32 + 256 * k + 256 ≤ length t.now) }
-    ensures { result ≡ y.passes group t.now k }
+pub fn passes(machine: &Machine, group: u32, k: u32) -> bool
+    requires { k < cores_of machine.now.tables.now }
+    ensures { result ≡ y.passes group machine.now.tables.now k }
 {
     let member = is_member(group, k);
-    let b = layout::block(t, k);
+    let b = machine.block(k);
     let running = tables::block::runs(b);
     let user = tables::block::user(b);
     !(member | running) | (running & user)
 }
 
 // Whether every core of both sides is running in user mode.
-pub fn all_in_user_mode(t: &[u32], group: u32) -> bool
-    requires { (cores_of t.now ≤ 4) × (32 + 256 * cores_of t.now ≤ length t.now) }
-    ensures { result ≡ all (y.passes group t.now) (range (cores_of t.now)) }
+pub fn all_in_user_mode(machine: &Machine, group: u32) -> bool
+    ensures { result ≡ all (y.passes group machine.now.tables.now) (range (cores_of machine.now.tables.now)) }
 {
-    let cores = t[CORES];
     let mut good = true;
-    let mut k: u32 = 0;
-    while k < cores {
-        good = good & passes(t, group, k);
-        k += 1;
+    for k in 0..machine.cores() {
+        good &= passes(machine, group, k);
     }
     good
 }
@@ -82,10 +74,8 @@ pub fn pages_apart(own: &[u8], other: &[u8], pages: usize) -> bool
     ensures { result ≡ all (λ i. y.page_apart (get_or own.now i 0) (get_or other.now i 0)) (range pages) }
 {
     let mut good = true;
-    let mut i: usize = 0;
-    while i < pages {
-        good = good & page_apart(own[i], other[i]);
-        i += 1;
+    for i in 0..pages {
+        good &= page_apart(own[i], other[i]);
     }
     good
 }

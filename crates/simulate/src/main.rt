@@ -8,8 +8,12 @@ ghost use Rattle.layout.specs.Layout.{table_words};
 ghost use Rattle.simulation.specs.Simulated.{is_started, cores_byte};
 
 use layout::{BLOCK_WORDS, HEADER_WORDS};
+use reading::read_full;
 use std::io;
-use std::io::{ErrorKind, Read, Write};
+use std::io::{Read, Write};
+
+// Room for the two bytes of the sizes and a memory of eight pages.
+const FRONT: usize = 2 + 8 * 4096;
 
 // Steps go in parts of 1,024: so many are read and answered at a time.
 const PART: usize = 24 * 1024;
@@ -22,30 +26,6 @@ struct Part {
     accepted: u64,
     left: usize,
     more: bool,
-}
-
-// The system's number for a descriptor that is not open.
-const NOT_OPEN: i32 = 9;
-
-// Reads until the buffer is full or the input ends, and answers how many bytes came. An input that is closed counts as
-// an empty one, and a read that a signal interrupts is tried again.
-fn read_full(input: &mut impl Read, buf: &mut [u8]) -> io::Result<usize>
-    ensures { ReadsAtMost result buf.new }
-{
-    let mut done: usize = 0;
-    for _ in 0..u64::MAX {
-        if buf.len() <= done {
-            break;
-        }
-        match input.read(&mut buf[done..]) {
-            Ok(0) => break,
-            Ok(n) => done += n,
-            Err(e) if e.kind() == ErrorKind::Interrupted => {}
-            Err(e) if e.raw_os_error() == Some(NOT_OPEN) => break,
-            Err(e) => return Err(e),
-        }
-    }
-    Ok(done)
 }
 
 // Reads a part of the input, takes its steps and writes their lines.
@@ -84,15 +64,14 @@ fn take_input(
     let mut steps: u64 = 0;
     let mut accepted: u64 = 0;
     let mut left: usize = 0;
-    let mut parts: u64 = 0;
-    let mut more = true;
-    while parts < 0x20_0000_0000_0000 && more {
+    for _parts in 0..0x20_0000_0000_0000u64 {
         let p = take_part(input, output, t, m, steps, accepted)?;
         steps += p.steps;
         accepted = p.accepted;
         left = p.left;
-        more = p.more;
-        parts += 1;
+        if !p.more {
+            break;
+        }
     }
     let mut out = [0u8; 64];
     let n = simulation::put_last(&mut out, steps, accepted, left);
@@ -100,16 +79,15 @@ fn take_input(
 }
 
 // Reads the first two bytes of the input, and answers how many came.
-fn read_sizes(input: &mut impl Read, front: &mut [u8]) -> io::Result<usize>
-    requires { 2 ≤ length front.old }
+fn read_sizes(input: &mut impl Read, front: &mut [u8; FRONT]) -> io::Result<usize>
     ensures { IfOk result (λ n. n ≤ 2) }
 {
     read_full(input, &mut front[..2])
 }
 
 // Reads the memory that they ask for to the place after them, and answers how many bytes there are then.
-fn read_memory(input: &mut impl Read, front: &mut [u8], sizes: usize) -> io::Result<usize>
-    requires { (length front.old ≡ 32770) × (sizes ≤ 2) }
+fn read_memory(input: &mut impl Read, front: &mut [u8; FRONT], sizes: usize) -> io::Result<usize>
+    requires { sizes ≤ 2 }
     ensures { ReadsAtMost result front.new }
 {
     let end = sizes + simulation::memory_bytes(&front[..sizes]);
@@ -136,9 +114,9 @@ fn run_in(
     input: &mut impl Read,
     output: &mut impl Write,
     front: &mut [u8],
-    tables: &mut [u32],
+    tables: &mut [u32; 1056],
 ) -> io::Result<()>
-    requires { (is_started front.old ≡ true) × (length tables.old ≡ 1056) }
+    requires { is_started front.old ≡ true }
 {
     let words = HEADER_WORDS + BLOCK_WORDS * (word::wide(front[0]) as usize);
     run(input, output, front, &mut tables[..words])
@@ -146,7 +124,7 @@ fn run_in(
 
 // Reads the machine, says whether it is one, and takes its steps.
 fn simulate(input: &mut impl Read, output: &mut impl Write) -> io::Result<()> {
-    let mut front = [0u8; 32770];
+    let mut front = [0u8; FRONT];
     let mut out = [0u8; 64];
     let sizes = read_sizes(input, &mut front)?;
     let n = read_memory(input, &mut front, sizes)?;

@@ -14,6 +14,8 @@ use Rattle.word.proofs.Tests.{and_left, and_right}
 use Rattle.text.specs.Text.{ascii}
 use Rattle.layout.specs.Layout.{table_words, most_cores}
 use Rattle.tables.specs.Sound.{up_to}
+use Rattle.std.specs.Prelude.{Option}
+use Rattle.refusals.specs.declared.Refusal.{Refusal}
 use Rattle.tables.specs.Make.{made, made_or, refusal}
 use Rattle.tables.proofs.Answers.{up_to_lem, accept}
 use Rattle.simulation.specs.Simulated.{cores_byte, pages_byte, memory_bytes, is_sized, is_started, first_text}
@@ -122,7 +124,7 @@ module _ (input : List ℕ) (S : Start input) (t : List ℕ) where
       = rw (r, d, le-ltb p 1 S.some_pages, le-ltb 4096 p (omega (arith, S.few_pages))) refl in
       ap (λ (k : ℕ). made_or (refusal k m l) k m t) c
       ∙ ap (λ (k : ℕ). made_or (refusal n k l) n k t) e
-      ∙ ap (λ (k : ℕ). made_or k n (4096 * p) t) (sym (accept n (4096 * p) l a g f))
+      ∙ ap (λ (k : Option Refusal). made_or k n (4096 * p) t) (sym (accept n (4096 * p) l a g f))
       ∙ ap (made n) d
 
   -- the memory is what stands after the two bytes

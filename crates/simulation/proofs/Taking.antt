@@ -1,22 +1,22 @@
 -- Laws of one step more: its line after those before it, and the machine after it.
 -- Assumes nothing.
+use Rattle.std.specs.Prelude.{Result, Ok, Err, is_ok}
+use Rattle.refusals.specs.declared.Refusal.{Refusal}
 use mathlib.Core.Path.{◌≡◌, refl, ap, ◌∙◌}
-use mathlib.Core.List.{List, ◌++◌}
+use mathlib.Core.List.{List}
 use Prim.Native.Nat.{ℕ, ◌+◌, ◌-◌, ◌*◌, ◌≤◌}
 use native.Mathlib.Numerals.{add-one}
 use native.Mathlib.Omega.{arith}
 use lib.ListN.{length, take, drop, length-drop}
 use lib.Seq.{take_all}
-use borrow.Author.Tests.{eq-eqb, ne_eqb}
 use Rattle.word.specs.Word.{flag}
 use Rattle.word.specs.Bytes.{words_in}
-use Rattle.text.specs.Text.{Put, ascii}
+use Rattle.text.specs.Text.{Put}
 use Rattle.text.proofs.Texts.{follow, reworded, nothing}
 use Rattle.steps.specs.declared.Answer.{Answer}
-use Rattle.steps.specs.declared.Answer.TheVariants.{Done, Interrupt, Refused}
-use Rattle.machine.specs.Step.{Stepped, step, is_accepted}
-use Rattle.lines.specs.Lines.{line_text, end_text}
-use Rattle.simulation.specs.Simulated.{Progress, from, step_at, stepped, after_steps, step_lines, last_text}
+use Rattle.machine.specs.Step.{Stepped, step}
+use Rattle.lines.specs.Lines.{line_text}
+use Rattle.simulation.specs.Simulated.{Progress, from, step_at, stepped, after_steps, step_lines}
 
 -- the words of a step, read from its place to the end
 pub step_words : (s b : List ℕ) (at : ℕ) → s ≡ words_in 6 (take (length b - at) (drop at b)) → s ≡ words_in 6 (drop at b)
@@ -34,7 +34,7 @@ module _ (i : ℕ) (p : Progress) (b t m : List ℕ) (k : ℕ) (e : from t m k �
   taken_is : step t m (words_in 6 (drop (24 * i) b)) ≡ step_at (after_steps i p b) b (24 * i)
   taken_is = ap (λ (q : Progress). step_at q b (24 * i)) e
 
-  module _ (a : Answer) (f : a ≡ (step t m (words_in 6 (drop (24 * i) b))).answer) where
+  module _ (a : Result Answer Refusal) (f : a ≡ (step t m (words_in 6 (drop (24 * i) b))).answer) where
     pub lines_next :
         (place : ℕ) {o : List ℕ} {w : ℕ} {c : List ℕ} {v : ℕ} {d : List ℕ} → Put o 0 (step_lines i place p b) w c → Put c w (line_text (place + i) a) v d
         → Put o 0 (step_lines (i + 1) place p b) v d
@@ -45,33 +45,21 @@ module _ (i : ℕ) (p : Progress) (b t m : List ℕ) (k : ℕ) (e : from t m k �
 
     pub after_next :
         (t' m' : List ℕ) (k' : ℕ) → t' ≡ (step t m (words_in 6 (drop (24 * i) b))).tables → m' ≡ (step t m (words_in 6 (drop (24 * i) b))).memory
-        → k' ≡ k + flag (is_accepted a) → from t' m' k' ≡ after_steps (i + 1) p b
+        → k' ≡ k + flag (is_ok a) → from t' m' k' ≡ after_steps (i + 1) p b
     unfolding after_steps
     after_next t' m' k' x y z =
         let s : Stepped = step t m (words_in 6 (drop (24 * i) b)) in
         rw (add-one i)
         (ap (λ (l : List ℕ). from l m' k') x
         ∙ ap (λ (l : List ℕ). from s.tables l k') y
-        ∙ ap (λ (n : ℕ). from s.tables s.memory n) (z ∙ ap (λ (r : Answer). k + flag (is_accepted r)) f)
+        ∙ ap (λ (n : ℕ). from s.tables s.memory n) (z ∙ ap (λ (r : Result Answer Refusal). k + flag (is_ok r)) f)
         ∙ ap (λ (q : Progress). stepped q (step_at q b (24 * i))) e)
 
--- ---- the last lines
+flag_one : (a : Result Answer Refusal) → flag (is_ok a) ≤ 1
+flag_one (Ok x) = omega arith
+flag_one (Err r) = omega arith
 
-module _ (n a left : ℕ) where
-  pub last_whole : left ≡ 0 → end_text a (n - a) ≡ last_text n a left
-  unfolding last_text
-  last_whole e = rw (eq-eqb left 0 e) refl
-
-  pub last_cut : (left ≡ 0 → ⊥) → ascii "cut\n" ++ end_text a (n - a) ≡ last_text n a left
-  unfolding last_text
-  last_cut e = rw (ne_eqb left 0 e) refl
-
-flag_one : (a : Answer) → flag (is_accepted a) ≤ 1
-flag_one Done = omega arith
-flag_one (Interrupt l) = omega arith
-flag_one (Refused k) = omega arith
-
-pub flag_few : (n : ℕ) (a : Answer) → n ≡ flag (is_accepted a) → n ≤ 1
+pub flag_few : (n : ℕ) (a : Result Answer Refusal) → n ≡ flag (is_ok a) → n ≤ 1
 flag_few n a e = omega (arith, flag_one a, e)
 
 -- ---- all steps of a part

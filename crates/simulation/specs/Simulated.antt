@@ -1,13 +1,13 @@
 -- All that the run program says: a text by its input (01, 'The run program reads from standard input').
 -- Assumes nothing.
-use Rattle.std.specs.Prelude.{if◌then◌else◌, Bool, ◌&&◌, List, [], ◌++◌, ℕ, zero, suc, ◌+◌, ◌-◌, ◌*◌, ◌/◌, ◌%◌, eqb, leb, length, take, drop, get_or}
+use Rattle.std.specs.Prelude.{if◌then◌else◌, Bool, ◌&&◌, List, [], ◌++◌, ℕ, zero, suc, ◌+◌, ◌-◌, ◌*◌, ◌/◌, ◌%◌, eqb, leb, length, take, drop, get_or, is_ok}
 use Rattle.word.specs.Word.{flag}
 use Rattle.word.specs.Bytes.{words_in}
 use Rattle.text.specs.Text.{ascii}
 use Rattle.layout.specs.Layout.{page_bytes, most_cores}
 use Rattle.tables.specs.Sound.{up_to}
 use Rattle.tables.specs.Make.{made}
-use Rattle.machine.specs.Step.{Stepped, step, is_accepted}
+use Rattle.machine.specs.Step.{Stepped, step}
 use Rattle.lines.specs.Lines.{line_text, end_text}
 
 -- ---- the front of the input: a byte of cores, one of pages, 1 to 8, and the memory
@@ -45,7 +45,7 @@ abbrev pub step_at : Progress → List ℕ → ℕ → Stepped
 step_at p b at = step p.tables p.memory (words_in 6 (drop at b))
 
 abbrev pub stepped : Progress → Stepped → Progress
-stepped p s = from s.tables s.memory (p.accepted + flag (is_accepted s.answer))
+stepped p s = from s.tables s.memory (p.accepted + flag (is_ok s.answer))
 
 -- after the first n steps
 unfoldable pub after_steps : ℕ → Progress → List ℕ → Progress

@@ -1,18 +1,19 @@
 // What the run program says, by its input (specs/Simulated.antt): at its start, for a part of its steps, at its end.
 #![tactic(auto)]
 
-ghost use Rattle.std.specs.Prelude.{if◌then◌else◌, ◌≡◌, true, ◌+◌, ◌*◌, ◌/◌, ◌%◌, ◌≤◌, ◌<◌, ◌^◌, length, drop};
+ghost use Rattle.std.specs.Prelude.{if◌then◌else◌, ◌≡◌, true, ◌++◌, ◌+◌, ◌*◌, ◌/◌, ◌%◌, ◌≤◌, ◌<◌, ◌^◌, length, drop, is_ok};
 ghost use Rattle.io.specs.Counts.{IsPrefixLen};
 ghost use Rattle.word.specs.Word.{flag};
 ghost use Rattle.word.specs.Bytes.{words_in};
 ghost use Rattle.text.specs.Text.{Put};
 ghost use Rattle.layout.specs.Layout.{table_words};
 ghost use Rattle.tables.specs.Make.{made};
-ghost use Rattle.machine.specs.Step.{is_accepted, step};
+ghost use Rattle.machine.specs.Step.{step};
 ghost use Rattle.simulation.specs.Simulated as simulated;
 
+use refusals::Refusal;
 use steps::Answer;
-use text::put;
+use text::{Text, put};
 
 // A step is six words of four bytes.
 const STEP_BYTES: usize = 24;
@@ -27,7 +28,8 @@ pub struct Taken {
     pub left: usize,
 }
 
-// How many bytes of memory the first two bytes ask for; 0 where they are out of range or missing.
+// How many bytes of memory the first two bytes ask for; 0 where they are out of range or missing. It is no Option,
+// since a caller reads so many bytes more, or knows that the bytes are in range.
 pub fn memory_bytes(input: &[u8]) -> usize
     ensures { (result ≡ (if simulated.is_sized input.now then simulated.memory_bytes input.now else 0)) × (result ≤ 32768) }
 {
@@ -71,22 +73,18 @@ pub fn start(input: &[u8], t: &mut [u32])
 {
     let cores = word::wide(input[0]);
     let end = 2 + memory_bytes(input);
-    tables::make::make(t, &input[2..end], cores);
+    let _ = tables::make::make(t, &input[2..end], cores);
 }
 
 // 1 for an accepted step, 0 for a refused one.
-fn accepted(a: Answer) -> u64
-    ensures { result ≡ flag (is_accepted a) }
+fn accepted(answer: Result<Answer, Refusal>) -> u64
+    ensures { result ≡ flag (is_ok answer) }
 {
-    match a {
-        Answer::Done => 1,
-        Answer::Interrupt(_) => 1,
-        Answer::Refused(_) => 0,
-    }
+    u64::from(answer.is_ok())
 }
 
 // The step whose words begin at a byte.
-fn take(t: &mut [u32], m: &mut [u8], input: &[u8], at: usize) -> Answer
+fn take(t: &mut [u32], m: &mut [u8], input: &[u8], at: usize) -> Result<Answer, Refusal>
     requires { at + 24 ≤ length input.now }
     ensures value { result ≡ (step t.old m.old (words_in 6 (drop at input.now))).answer }
     ensures t_after { t.new ≡ (step t.old m.old (words_in 6 (drop at input.now))).tables }
@@ -113,14 +111,14 @@ pub fn take_steps(
     ensures steps_value { (result.steps ≡ length input.now / 24) × (result.left ≡ length input.now % 24) × (result.accepted ≤ place + result.steps) }
 {
     let n = input.len() / STEP_BYTES;
-    let mut i: usize = 0;
     let mut written: usize = 0;
     let mut taken = earlier;
-    while i < n {
+    for i in 0..n {
         let a = take(t, m, input, STEP_BYTES * i);
-        written = lines::put_line(out, written, place + i as u64, a);
+        let mut line: Text<52> = Text::new();
+        lines::put_line(&mut line, place + i as u64, a);
+        written = put(out, written, line.as_bytes());
         taken += accepted(a);
-        i += 1;
     }
     Taken {
         written,
@@ -130,14 +128,24 @@ pub fn take_steps(
     }
 }
 
+#[tactic(auto, unfolding(crate::specs::Simulated::last_text))]
+fn put_last_lines<const N: usize>(text: &mut Text<N>, steps: u64, accepted: u64, left: usize)
+    requires { (length text.old + 50 ≤ N) × (accepted ≤ steps) }
+    ensures text { text.new ≡ text.old ++ simulated.last_text steps accepted left }
+    ensures bound { length text.new ≤ length text.old + 50 }
+{
+    if left != 0 {
+        text.put(b"cut\n");
+    }
+    lines::put_end(text, accepted, steps - accepted);
+}
+
 // The last lines, after so many steps, where so many bytes are left.
 pub fn put_last(out: &mut [u8], steps: u64, accepted: u64, left: usize) -> usize
     requires { (64 ≤ length out.old) × (accepted ≤ steps) }
     ensures { Put out.old 0 (simulated.last_text steps accepted left) result out.new × IsPrefixLen result out.new }
 {
-    if left == 0 {
-        return lines::put_end(out, 0, accepted, steps - accepted);
-    }
-    let p = put(out, 0, b"cut\n");
-    lines::put_end(out, p, accepted, steps - accepted)
+    let mut text: Text<50> = Text::new();
+    put_last_lines(&mut text, steps, accepted, left);
+    put(out, 0, text.as_bytes())
 }

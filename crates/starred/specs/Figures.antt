@@ -26,7 +26,8 @@ pub record Figure : Type 0 where
 abbrev figure : ℕ → ℕ → Figure
 figure x y = record { found = x; printed = y }
 
--- a core at a pc, with general registers 1 and 2, and HI and LO both h. Register 3 holds 7, so that an instruction which leaves it shows.
+-- a core at a pc, with general registers 1 and 2, and HI and LO both h. Register 3 holds 7, so that an instruction
+-- which leaves it shows.
 abbrev core : ℕ → ℕ → ℕ → ℕ → Registers
 core at x y h = record { gpr = set (set (set (replicate 32 0) 1 x) 2 y) 3 7; spr = replicate 32 0; pc = at; hi = h; lo = h }
 

@@ -1,10 +1,15 @@
--- What a step is (01, 'A step is six words'): kind, core or line, and four more. Words that a kind does not name are zero; a walk's words are not judged.
+-- What a step is (01, 'A step is six words'): kind, core or line, and four more. Words that a kind does not name are
+-- zero; a walk's words are not judged.
 -- Assumes nothing.
-use Rattle.std.specs.Prelude.{if◌then◌else◌, Bool, ◌&&◌, List, ℕ, ◌+◌, ◌^◌, eqb, ltb, length, get_or}
+use Rattle.std.specs.Prelude.{if◌then◌else◌, Bool, ◌&&◌, List, ℕ, ◌+◌, ◌^◌, eqb, ltb, length, get_or, drop, Option, Some, None}
+use Rattle.std.specs.Bool.{then_some}
+use Rattle.std.specs.List.{list_all}
 use Rattle.layout.specs.Layout.{block_at, refusals, core_refusals}
 use Rattle.records.specs.declared.Walk.{Walk}
 use Rattle.steps.specs.declared.Step.{Step}
-use Rattle.steps.specs.declared.Step.TheVariants.{Core, TlbCreate, TlbExtend, TlbAccessed, StoreBuffer, SendIpi, SendEoi, InitCore, StartCore, Sample, Deliver, SetLine, NotAStep}
+use Rattle.steps.specs.declared.Step.TheVariants.{ByProcessor, ByApic}
+use Rattle.steps.specs.declared.ProcessorStep.TheVariants.{Core, TlbCreate, TlbExtend, TlbAccessed, StoreBuffer}
+use Rattle.steps.specs.declared.ApicStep.TheVariants.{SendIpi, SendEoi, InitCore, StartCore, Sample, Deliver, SetLine}
 
 -- the line numbers are 0 to 23
 abbrev pub line_count : ℕ
@@ -17,50 +22,38 @@ word s i = get_or s i 0
 abbrev pub walk_at : List ℕ → ℕ → Walk
 walk_at s i = record { first = word s i; second = word s (i + 1) }
 
--- word 5, 4, 3 or 2 and those after it, which a kind does not name, are zero
-abbrev pub zero5 : List ℕ → Bool
-zero5 s = eqb (word s 5) 0
-
-abbrev pub zero4 : List ℕ → Bool
-zero4 s = eqb (word s 4) 0 && zero5 s
-
-abbrev pub zero3 : List ℕ → Bool
-zero3 s = eqb (word s 3) 0 && zero4 s
-
-abbrev pub zero2 : List ℕ → Bool
-zero2 s = eqb (word s 2) 0 && zero3 s
-
-abbrev pub or_not : Bool → Step → Step
-or_not t s = if t then s else NotAStep
+-- word i and those after it, which a kind does not name, are zero
+unfoldable pub zero_from : ℕ → List ℕ → Bool
+zero_from i s = list_all (λ w. eqb w 0) (drop i s)
 
 -- a step of a core: kinds 0 to 8
-abbrev pub step_of_core : ℕ → ℕ → List ℕ → Step
+abbrev pub step_of_core : ℕ → ℕ → List ℕ → Option Step
 step_of_core kind k s =
-    if eqb kind 0 then Core k (walk_at s 2) (walk_at s 4)
-    else if eqb kind 1 then or_not (ltb (word s 2) (2 ^ 20) && zero3 s) (TlbCreate k (word s 2))
-    else if eqb kind 2 then or_not (ltb (word s 4) (2 ^ 3) && zero5 s) (TlbExtend k (walk_at s 2))
-    else if eqb kind 3 then or_not (zero4 s) (TlbAccessed k (walk_at s 2))
-    else if eqb kind 4 then or_not (zero2 s) (StoreBuffer k)
-    else if eqb kind 5 then or_not (zero2 s) (SendIpi k)
-    else if eqb kind 6 then or_not (zero2 s) (SendEoi k)
-    else if eqb kind 7 then or_not (zero2 s) (InitCore k)
-    else or_not (zero2 s) (StartCore k)
+    if eqb kind 0 then Some (ByProcessor k (Core (walk_at s 2) (walk_at s 4)))
+    else if eqb kind 1 then then_some (ltb (word s 2) (2 ^ 20) && zero_from 3 s) (ByProcessor k (TlbCreate (word s 2)))
+    else if eqb kind 2 then then_some (ltb (word s 4) (2 ^ 3) && zero_from 5 s) (ByProcessor k (TlbExtend (walk_at s 2)))
+    else if eqb kind 3 then then_some (zero_from 4 s) (ByProcessor k (TlbAccessed (walk_at s 2)))
+    else if eqb kind 4 then then_some (zero_from 2 s) (ByProcessor k StoreBuffer)
+    else if eqb kind 5 then then_some (zero_from 2 s) (ByApic (SendIpi k))
+    else if eqb kind 6 then then_some (zero_from 2 s) (ByApic (SendEoi k))
+    else if eqb kind 7 then then_some (zero_from 2 s) (ByApic (InitCore k))
+    else then_some (zero_from 2 s) (ByApic (StartCore k))
 
 -- a step on a line: kinds 9 to 11
-abbrev pub step_of_line : ℕ → ℕ → List ℕ → Step
+abbrev pub step_of_line : ℕ → ℕ → List ℕ → Option Step
 step_of_line kind n s =
-    if eqb kind 9 then or_not (zero2 s) (Sample n)
-    else if eqb kind 10 then or_not (zero2 s) (Deliver n)
-    else or_not (ltb (word s 2) 2 && zero3 s) (SetLine n (word s 2))
+    if eqb kind 9 then then_some (zero_from 2 s) (ByApic (Sample n))
+    else if eqb kind 10 then then_some (zero_from 2 s) (ByApic (Deliver n))
+    else then_some (ltb (word s 2) 2 && zero_from 3 s) (ByApic (SetLine n (word s 2)))
 
--- the step that the words say, for a machine of n cores
-unfoldable pub step_of : ℕ → List ℕ → Step
+-- the step that the words say, for a machine of n cores; none where they are not a step
+unfoldable pub step_of : ℕ → List ℕ → Option Step
 step_of n s =
     if eqb (length s) 6 then
-    (if ltb (word s 0) 9 then or_not (ltb (word s 1) n) (step_of_core (word s 0) (word s 1) s)
-    else if ltb (word s 0) 12 then or_not (ltb (word s 1) line_count) (step_of_line (word s 0) (word s 1) s)
-    else NotAStep)
-    else NotAStep
+    (if ltb (word s 0) 9 then (if ltb (word s 1) n then step_of_core (word s 0) (word s 1) s else None)
+    else if ltb (word s 0) 12 then (if ltb (word s 1) line_count then step_of_line (word s 0) (word s 1) s else None)
+    else None)
+    else None
 
 -- ---- whose refusals (02, 'Whose refusals?')
 

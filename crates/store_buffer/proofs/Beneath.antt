@@ -1,6 +1,6 @@
 -- The bytes of an access beneath the store buffer: all of one port word, or all of memory.
 -- Assumes nothing.
-use Rattle.std.specs.Prelude.{if◌then◌else◌}
+use Rattle.std.specs.Prelude.{if◌then◌else◌, Option, Some}
 use mathlib.Core.Path.{◌≡◌, refl, ap, ◌∙◌}
 use Prim.Native.Nat.{ℕ, ◌+◌, ◌-◌, ◌*◌, ◌/◌, ◌%◌, ◌^◌, ◌<◌, ◌≤◌}
 use mathlib.Core.Bool.{Bool, true, false, ◌&&◌}
@@ -17,8 +17,6 @@ use Rattle.word.proofs.Laws.{ltb_same, leb_same}
 use Rattle.word.proofs.Truth.{and_left, and_right}
 use Rattle.layout.specs.Layout.{ports, local_ports, io_ports}
 use Rattle.records.specs.Contents.{local_port, io_port}
-use Rattle.store_buffer.specs.declared.Read.{Read}
-use Rattle.store_buffer.specs.declared.Read.TheVariants.{There}
 use Rattle.store_buffer.specs.Buffer.{sbhit}
 use Rattle.store_buffer.specs.System.{Ports, ports_of, apicadr, ioapicadr, apic_byte, ioapic_byte, memory_byte, beneath, ms_of, ms, reads}
 use Rattle.store_buffer.proofs.Access.{InWord, reads_same, reads_part}
@@ -28,16 +26,16 @@ pub ms_empty : (p : Ports) (m : List ℕ) (x : ℕ) → ms [] p m x ≡ beneath 
 unfolding ms_of sbhit
 ms_empty p m x = refl
 
-module _ (p : Ports) (x : ℕ) (r : Read) where
+module _ (p : Ports) (x : ℕ) (r : Option ℕ) where
   outside : local_port x ≡ false → io_port x ≡ false → beneath p x r ≡ r
   unfolding beneath
   outside e f = rw (e, f)
 
-  in_local : local_port x ≡ true → beneath p x r ≡ There (apic_byte p (apicadr x))
+  in_local : local_port x ≡ true → beneath p x r ≡ Some (apic_byte p (apicadr x))
   unfolding beneath
   in_local e = rw e
 
-  in_io : local_port x ≡ false → io_port x ≡ true → beneath p x r ≡ There (ioapic_byte p (ioapicadr x))
+  in_io : local_port x ≡ false → io_port x ≡ true → beneath p x r ≡ Some (ioapic_byte p (ioapicadr x))
   unfolding beneath
   in_io f e = rw (f, e)
 
@@ -94,10 +92,10 @@ module _ (a d : ℕ) (low : a < 2 ^ 32) (w : InWord a d) where
         reads_same d (ms [] p m) (memory_byte m) a room
         (λ j h. ms_empty p m (a + j) ∙ outside p (a + j) (memory_byte m (a + j)) (local_same j h ∙ e) (io_same j h ∙ f))
 
-    pub reads_local : local_port a ≡ true → reads d (ms [] p m) a ≡ There (get_or b (ports + (a - local_ports) / 4) 0 / 256 ^ (a % 4) % 256 ^ d)
+    pub reads_local : local_port a ≡ true → reads d (ms [] p m) a ≡ Some (get_or b (ports + (a - local_ports) / 4) 0 / 256 ^ (a % 4) % 256 ^ d)
     reads_local e =
         reads_part d (ms [] p m) (get_or b (ports + (a - local_ports) / 4) 0) a (a % 4) room
-        (λ j h. ms_empty p m (a + j) ∙ in_local p (a + j) (memory_byte m (a + j)) (local_same j h ∙ e) ∙ ap There (bytes j h))
+        (λ j h. ms_empty p m (a + j) ∙ in_local p (a + j) (memory_byte m (a + j)) (local_same j h ∙ e) ∙ ap Some (bytes j h))
       where
         from : local_ports ≤ a
         from = (local_range a e).0
@@ -122,10 +120,10 @@ module _ (a d : ℕ) (low : a < 2 ^ 32) (w : InWord a d) where
     abbrev io_word : ℕ
     io_word = if ltb (a - io_ports) 4 then select else window
 
-    pub reads_io : local_port a ≡ false → io_port a ≡ true → reads d (ms [] p m) a ≡ There (io_word / 256 ^ (a % 4) % 256 ^ d)
+    pub reads_io : local_port a ≡ false → io_port a ≡ true → reads d (ms [] p m) a ≡ Some (io_word / 256 ^ (a % 4) % 256 ^ d)
     reads_io f e =
         reads_part d (ms [] p m) io_word a (a % 4) room
-        (λ j h. ms_empty p m (a + j) ∙ in_io p (a + j) (memory_byte m (a + j)) (local_same j h ∙ f) (io_same j h ∙ e) ∙ ap There (bytes j h))
+        (λ j h. ms_empty p m (a + j) ∙ in_io p (a + j) (memory_byte m (a + j)) (local_same j h ∙ f) (io_same j h ∙ e) ∙ ap Some (bytes j h))
       where
         from : io_ports ≤ a
         from = (io_range a e).0

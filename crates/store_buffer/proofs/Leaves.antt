@@ -1,5 +1,6 @@
 -- The oldest store, and where it goes.
 -- Assumes nothing.
+use Rattle.std.specs.Prelude.{Some, None}
 use mathlib.Core.Path.{◌≡◌, sym, ap, ◌∙◌}
 use mathlib.Core.Logic.{◌≢◌}
 use Prim.Native.Nat.{ℕ, ◌+◌, ◌-◌, ◌^◌, ◌<◌, ◌≤◌}
@@ -14,7 +15,6 @@ use Rattle.records.specs.declared.Store.{Store}
 use Rattle.records.specs.Records.{stores, store_in}
 use Rattle.records.specs.Contents.{local_port, io_port}
 use Rattle.records.proofs.Checking.{chain_step, chain_zero}
-use Rattle.store_buffer.specs.declared.Oldest.TheVariants.{Empty, Leaves}
 use Rattle.store_buffer.specs.declared.Place.{Place}
 use Rattle.store_buffer.specs.declared.Place.TheVariants.{LocalPort, IoPort, Memory, Beyond}
 use Rattle.store_buffer.specs.System.{apicadr, ioapicadr}
@@ -25,11 +25,11 @@ distance : (x l : ℕ) → l ≤ x → x < 2 ^ 32 → minus 32 x l ≡ x - l
 distance x l p q = omega arith
 
 module _ (b : List ℕ) where
-  pub oldest_none : get_or b store_head 0 ≡ 0 → Empty ≡ oldest (stores b)
+  pub oldest_none : get_or b store_head 0 ≡ 0 → None ≡ oldest (stores b)
   unfolding stores
   oldest_none e = sym (ap (λ (l : List ℕ). oldest (map (store_in b) l)) (chain_zero 32 b (get_or b store_head 0) e))
 
-  pub oldest_some : get_or b store_head 0 ≢ 0 → Leaves (store_in b (get_or b store_head 0)) ≡ oldest (stores b)
+  pub oldest_some : get_or b store_head 0 ≢ 0 → Some (store_in b (get_or b store_head 0)) ≡ oldest (stores b)
   unfolding stores
   oldest_some d = sym (ap (λ (l : List ℕ). oldest (map (store_in b) l)) (chain_step 32 b (get_or b store_head 0) (omega arith) d))
 

@@ -1,4 +1,4 @@
-pub mod Cover
+pub mod Covers
 pub mod Pass
 pub mod Access
 pub mod Hits

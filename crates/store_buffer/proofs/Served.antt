@@ -1,6 +1,6 @@
 -- A load is served by one pending store, or by none.
 -- Assumes nothing.
-use Rattle.std.specs.Prelude.{if◌then◌else◌}
+use Rattle.std.specs.Prelude.{if◌then◌else◌, Option, Some, None, Ok, Err}
 use mathlib.Core.Path.{◌≡◌, refl, sym, ap, ◌∙◌}
 use Prim.Native.Nat.{ℕ, ◌+◌, ◌-◌, ◌*◌, ◌/◌, ◌%◌, ◌^◌, ◌<◌, ◌≤◌}
 use mathlib.Core.Bool.{Bool, true, false}
@@ -19,12 +19,9 @@ use Rattle.records.specs.Contents.{store_sound, sound_records}
 use Rattle.records.proofs.Along.{stores_small}
 use Rattle.records.proofs.Fold.{number_low, at_map, stores_length}
 use Rattle.records.proofs.Contents.{parts_of}
-use Rattle.store_buffer.specs.declared.Hit.{Hit}
-use Rattle.store_buffer.specs.declared.Hit.TheVariants.{At, Miss}
-use Rattle.store_buffer.specs.declared.Read.{Read}
-use Rattle.store_buffer.specs.declared.Read.TheVariants.{There}
+use Rattle.store_buffer.specs.declared.Source.{Source}
 use Rattle.store_buffer.specs.declared.Source.TheVariants.{Nothing, One, Mixed}
-use Rattle.store_buffer.specs.declared.Loaded.TheVariants.{Value, Hazard}
+use Rattle.store_buffer.specs.declared.LoadError.{LoadError}
 use Rattle.store_buffer.specs.Buffer.{sbehit, sbhit, sbv, maxsbhit, sbhazard}
 use Rattle.store_buffer.specs.System.{Ports, ms_of, ms, reads, aligned, sized, on_read, loaded}
 use Rattle.store_buffer.specs.inner.Pass.{source_of, source_by}
@@ -33,12 +30,12 @@ use Rattle.store_buffer.proofs.Hits.{Newest, newest_law, none_hits, one_hits, no
 
 -- ---- one byte
 
-ms_hit : (sb : List Store) (p : Ports) (m : List ℕ) (x i : ℕ) → maxsbhit sb x ≡ At i
-    → ms sb p m x ≡ There (byte (x - (get_or sb i no_store).address) (get_or sb i no_store).value)
+ms_hit : (sb : List Store) (p : Ports) (m : List ℕ) (x i : ℕ) → maxsbhit sb x ≡ Some i
+    → ms sb p m x ≡ Some (byte (x - (get_or sb i no_store).address) (get_or sb i no_store).value)
 unfolding ms_of sbv
 ms_hit sb p m x i e = rw (one_hits sb x i e, e)
 
-ms_miss : (sb : List Store) (p : Ports) (m : List ℕ) (x : ℕ) → maxsbhit sb x ≡ Miss → ms sb p m x ≡ ms [] p m x
+ms_miss : (sb : List Store) (p : Ports) (m : List ℕ) (x : ℕ) → maxsbhit sb x ≡ None → ms sb p m x ≡ ms [] p m x
 unfolding ms_of sbhit
 ms_miss sb p m x e = rw (none_hits sb x e)
 
@@ -70,10 +67,10 @@ module _ (sb : List Store) (p : Ports) (m : List ℕ) (a d : ℕ) (low : a < 2 ^
       ap (maxsbhit sb) e ∙ no_hazard sb a d j safe h ∙ ap (maxsbhit sb) z
 
   -- where there is none, the bytes are those beneath
-  pub served_by_none : maxsbhit sb a ≡ Miss → reads d (ms sb p m) a ≡ reads d (ms [] p m) a
+  pub served_by_none : maxsbhit sb a ≡ None → reads d (ms sb p m) a ≡ reads d (ms [] p m) a
   served_by_none e = reads_same d (ms sb p m) (ms [] p m) a room (λ j h. ms_miss sb p m (a + j) (alike j h ∙ e))
 
-  module _ (i : ℕ) (e : maxsbhit sb a ≡ At i) where
+  module _ (i : ℕ) (e : maxsbhit sb a ≡ Some i) where
     abbrev s : Store
     s = get_or sb i no_store
 
@@ -82,40 +79,40 @@ module _ (sb : List Store) (p : Ports) (m : List ℕ) (a d : ℕ) (low : a < 2 ^
       served_from = hit_from s f v a low (newest_law sb a i e).hit
 
       -- else all its bytes are those of the one store's value, from where the access begins in it
-      pub served_by_one : reads d (ms sb p m) a ≡ There (s.value / 256 ^ (a - s.address) % 256 ^ d)
+      pub served_by_one : reads d (ms sb p m) a ≡ Some (s.value / 256 ^ (a - s.address) % 256 ^ d)
       served_by_one =
           reads_part d (ms sb p m) s.value a (a - s.address) room
           (λ j h.
           let q : a + j - s.address ≡ a - s.address + j = omega (arith, served_from.0) in
-          ms_hit sb p m (a + j) i (alike j h ∙ e) ∙ ap (λ (k : ℕ). There (byte k s.value)) q)
+          ms_hit sb p m (a + j) i (alike j h ∙ e) ∙ ap (λ (k : ℕ). Some (byte k s.value)) q)
 
 -- ---- what one pass finds, and the load
 
 module _ (b : List ℕ) where
-  by_nothing : (t : Bool) (h : Hit) → Nothing ≡ (if t then Mixed else source_by b h) → (t ≡ false) × (h ≡ Miss)
+  by_nothing : (t : Bool) (h : Option ℕ) → Nothing ≡ (if t then Mixed else source_by b h) → (t ≡ false) × (h ≡ None)
   by_nothing true h e = let z : ◌≡◌ {A = ℕ} 0 1 = cc in absurd (omega arith)
-  by_nothing false (At i) e = let z : ◌≡◌ {A = ℕ} 0 1 = cc in absurd (omega arith)
-  by_nothing false Miss e = (refl, refl)
+  by_nothing false (Some i) e = let z : ◌≡◌ {A = ℕ} 0 1 = cc in absurd (omega arith)
+  by_nothing false None e = (refl, refl)
 
-  by_one : (i n : ℕ) (t : Bool) (h : Hit) → One i n ≡ (if t then Mixed else source_by b h) → (t ≡ false) × (h ≡ At i) × (n ≡ get_or (store_numbers b) i 0)
+  by_one : (i n : ℕ) (t : Bool) (h : Option ℕ) → One i n ≡ (if t then Mixed else source_by b h) → (t ≡ false) × (h ≡ Some i) × (n ≡ get_or (store_numbers b) i 0)
   by_one i n true h e = let z : ◌≡◌ {A = ℕ} 0 1 = cc in absurd (omega arith)
-  by_one i n false (At k) e =
+  by_one i n false (Some k) e =
       let p : i ≡ k = cc in
       let q : n ≡ get_or (store_numbers b) k 0 = cc in
-      (refl, ap At (sym p), q ∙ ap (λ (j : ℕ). get_or (store_numbers b) j 0) (sym p))
-  by_one i n false Miss e = let z : ◌≡◌ {A = ℕ} 0 1 = cc in absurd (omega arith)
+      (refl, ap Some (sym p), q ∙ ap (λ (j : ℕ). get_or (store_numbers b) j 0) (sym p))
+  by_one i n false None e = let z : ◌≡◌ {A = ℕ} 0 1 = cc in absurd (omega arith)
 
-  by_mixed : (t : Bool) (h : Hit) → Mixed ≡ (if t then Mixed else source_by b h) → t ≡ true
+  by_mixed : (t : Bool) (h : Option ℕ) → Mixed ≡ (if t then Mixed else source_by b h) → t ≡ true
   by_mixed true h e = refl
-  by_mixed false (At i) e = let z : ◌≡◌ {A = ℕ} 0 1 = cc in absurd (omega arith)
-  by_mixed false Miss e = let z : ◌≡◌ {A = ℕ} 0 1 = cc in absurd (omega arith)
+  by_mixed false (Some i) e = let z : ◌≡◌ {A = ℕ} 0 1 = cc in absurd (omega arith)
+  by_mixed false None e = let z : ◌≡◌ {A = ℕ} 0 1 = cc in absurd (omega arith)
 
 module _ (b : List ℕ) (a d : ℕ) where
-  pub found_nothing : Nothing ≡ source_of b a d → (sbhazard (stores b) a d ≡ false) × (maxsbhit (stores b) a ≡ Miss)
+  pub found_nothing : Nothing ≡ source_of b a d → (sbhazard (stores b) a d ≡ false) × (maxsbhit (stores b) a ≡ None)
   unfolding source_of
   found_nothing e = by_nothing b (sbhazard (stores b) a d) (maxsbhit (stores b) a) e
 
-  pub found_one : (i n : ℕ) → One i n ≡ source_of b a d → (sbhazard (stores b) a d ≡ false) × (maxsbhit (stores b) a ≡ At i) × (n ≡ get_or (store_numbers b) i 0)
+  pub found_one : (i n : ℕ) → One i n ≡ source_of b a d → (sbhazard (stores b) a d ≡ false) × (maxsbhit (stores b) a ≡ Some i) × (n ≡ get_or (store_numbers b) i 0)
   unfolding source_of
   found_one i n e = by_one b i n (sbhazard (stores b) a d) (maxsbhit (stores b) a) e
 
@@ -123,12 +120,17 @@ module _ (b : List ℕ) (a d : ℕ) where
   unfolding source_of
   found_mixed e = by_mixed b (sbhazard (stores b) a d) (maxsbhit (stores b) a) e
 
+  pub found_other : (f : Source) → f ≡ source_of b a d → (f ≡ Mixed → ⊥) → false ≡ sbhazard (stores b) a d
+  found_other Nothing e n = sym (found_nothing e).0
+  found_other (One i k) e n = sym (found_one i k e).0
+  found_other Mixed e n = absurd (n refl)
+
   module _ (p : Ports) (m : List ℕ) (low : a < 2 ^ 32) (w : InWord a d) where
-    pub load_mixed : Mixed ≡ source_of b a d → Hazard ≡ loaded (stores b) p m a d
+    pub load_mixed : Mixed ≡ source_of b a d → Err LoadError.Hazard ≡ loaded (stores b) p m a d
     unfolding loaded
     load_mixed e = rw (found_mixed e)
 
-    pub load_beneath : {r : Read} → Nothing ≡ source_of b a d → r ≡ reads d (ms [] p m) a → on_read Miss r ≡ loaded (stores b) p m a d
+    pub load_beneath : {r : Option ℕ} → Nothing ≡ source_of b a d → r ≡ reads d (ms [] p m) a → on_read None r ≡ loaded (stores b) p m a d
     unfolding loaded
     load_beneath {r} e f =
         let s = found_nothing e in
@@ -164,7 +166,7 @@ module _ (b : List ℕ) (a d : ℕ) where
       pub one_near : minus 32 a (store_in b n).address < 4
       one_near = omega (arith, offset, starts.1, in_word.within)
 
-      pub load_one : {v : ℕ} → v ≡ (store_in b n).value / 256 ^ minus 32 a (store_in b n).address % 256 ^ d → Value v (At i) ≡ loaded (stores b) p m a d
+      pub load_one : {v : ℕ} → v ≡ (store_in b n).value / 256 ^ minus 32 a (store_in b n).address % 256 ^ d → Ok (record { value = v; served_by = Some i }) ≡ loaded (stores b) p m a d
       unfolding loaded
       load_one {v} f =
           let s = found_one i n e in

@@ -1,18 +1,16 @@
 -- The step of the store buffer (the report, section 11.3): the oldest store, and where it goes.
 -- Assumes nothing.
-use Rattle.std.specs.Prelude.{if◌then◌else◌, ℕ, ◌+◌, List, [], ◌∷◌, eqb, leb}
+use Rattle.std.specs.Prelude.{if◌then◌else◌, ℕ, ◌+◌, List, [], ◌∷◌, eqb, leb, Option, Some, None}
 use Rattle.records.specs.declared.Store.{Store}
 use Rattle.records.specs.Contents.{local_port, io_port}
-use Rattle.store_buffer.specs.declared.Oldest.{Oldest}
-use Rattle.store_buffer.specs.declared.Oldest.TheVariants.{Empty, Leaves}
 use Rattle.store_buffer.specs.declared.Place.{Place}
 use Rattle.store_buffer.specs.declared.Place.TheVariants.{LocalPort, IoPort, Narrow, Memory, Beyond}
 use Rattle.store_buffer.specs.System.{apicadr, ioapicadr}
 
 -- an empty buffer makes no step
-abbrev pub oldest : List Store → Oldest
-oldest [] = Empty
-oldest (s ∷ sb) = Leaves s
+abbrev pub oldest : List Store → Option Store
+oldest [] = None
+oldest (s ∷ sb) = Some s
 
 -- ports take words only
 abbrev pub word_only : Store → Place → Place

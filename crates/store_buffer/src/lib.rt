@@ -13,36 +13,23 @@ ghost use Rattle.store_buffer.specs.inner.Pass as p;
 use layout::{IO_PORTS, LOCAL_PORTS, PORTS, RECORD_WORDS, RECORDS, STORE_HEAD};
 use records::{Store, check};
 
-// The newest pending store that writes a byte, by its place from the oldest.
-#[derive(Clone, Copy)]
-pub enum Hit {
-    At(usize),
-    Miss,
+// What a load gives: the value, and the pending store that served it, if one did, by its place from the oldest.
+#[derive(Clone, Copy, Debug, PartialEq, Eq)]
+pub struct Loaded {
+    pub value: u32,
+    pub served_by: Option<usize>,
 }
 
-// A byte or some bytes, where all of them are there.
-#[derive(Clone, Copy)]
-pub enum Read {
-    There(u32),
-    Nowhere,
-}
-
-// What a load gives: the value, and the pending store that served it, if one did.
-#[derive(Clone, Copy)]
-pub enum Loaded {
-    Value(u32, Hit),
+// Why a load gives nothing: a byte is in neither memory nor a port, or its bytes have different newest pending stores.
+#[derive(Clone, Copy, Debug, PartialEq, Eq)]
+pub enum LoadError {
     Nowhere,
     Hazard,
 }
 
-#[derive(Clone, Copy)]
-pub enum Oldest {
-    Empty,
-    Leaves(Store),
-}
-
-// Where a store goes when it leaves: a port at its port address, memory, or nowhere, as it is too narrow for a port or beyond memory.
-#[derive(Clone, Copy)]
+// Where a store goes when it leaves: a port at its port address, memory, or nowhere, as it is too narrow for a port or
+// beyond memory.
+#[derive(Clone, Copy, Debug, PartialEq, Eq)]
 pub enum Place {
     LocalPort(u32),
     IoPort(u32),
@@ -52,43 +39,57 @@ pub enum Place {
 }
 
 // The newest pending store of all bytes of an access: none, one at a place in a record, or not the same one for all.
-#[derive(Clone, Copy)]
+#[derive(Clone, Copy, Debug, PartialEq, Eq)]
 pub enum Source {
     Nothing,
     One(usize, u32),
     Mixed,
 }
 
-// What is found after one more store, at a place in a record.
-fn found_after(
-    f: Source,
-    place: usize,
-    number: u32,
-    address: u32,
-    width: u32,
-    a: u32,
-    d: u32,
-) -> Source
-    ensures { result ≡ p.on_cover (p.cover address width a d) place number f }
+// How many of the bytes of an access a store writes.
+#[derive(Clone, Copy, Debug, PartialEq, Eq)]
+pub enum Cover {
+    Whole,
+    Part,
+    Outside,
+}
+
+// How many of the d bytes at a a store writes.
+fn cover_of(address: u32, width: u32, a: u32, d: u32) -> Cover
+    ensures { result ≡ p.cover address width a d }
 {
     let offset = word::sub(a, address);
     if offset < width {
-        if d <= width - offset {
-            return Source::One(place, number);
-        }
-        return Source::Mixed;
+        return if d <= width - offset {
+            Cover::Whole
+        } else {
+            Cover::Part
+        };
     }
-    let before = word::sub(address, a);
-    if before < d {
-        if width == 0 {
-            return f;
-        }
-        return Source::Mixed;
+    let begins_within = word::sub(address, a) < d;
+    if begins_within {
+        return if width == 0 {
+            Cover::Outside
+        } else {
+            Cover::Part
+        };
     }
-    f
+    Cover::Outside
 }
 
-// The newest pending store of an access, in one pass.
+// What is found after one more store, at a place in a record.
+fn found_after(cover: Cover, place: usize, number: u32, f: Source) -> Source
+    ensures { result ≡ p.on_cover cover place number f }
+{
+    match cover {
+        Cover::Whole => Source::One(place, number),
+        Cover::Part => Source::Mixed,
+        Cover::Outside => f,
+    }
+}
+
+// The newest pending store of an access, in one pass. The chain of records ends where the next one is 0, which is not
+// known beforehand. It reads two words of four here and no `Record`, as this loop runs for each load.
 fn find(b: &[u32], a: u32, d: u32) -> Source
     requires b_len { length b.now ≡ 256 }
     requires b_value { linked b.now ≡ true }
@@ -100,7 +101,7 @@ fn find(b: &[u32], a: u32, d: u32) -> Source
     let mut n = b[STORE_HEAD];
     while n != 0 {
         let i = RECORDS + RECORD_WORDS * (n as usize);
-        f = found_after(f, place, n, b[i + 1], b[i + 3], a, d);
+        f = found_after(cover_of(b[i + 1], b[i + 3], a, d), place, n, f);
         place += 1;
         n = b[i];
     }
@@ -114,12 +115,7 @@ pub fn hazard(b: &[u32], a: u32, d: u32) -> bool
     requires d_nonzero { 0 < d }
     ensures { result ≡ x.sbhazard (stores b.now) a d }
 {
-    let f = find(b, a, d);
-    match f {
-        Source::Nothing => false,
-        Source::One(_, _) => false,
-        Source::Mixed => true,
-    }
+    matches!(find(b, a, d), Source::Mixed)
 }
 
 // The d bytes of a word from byte k on.
@@ -129,13 +125,25 @@ fn part(v: u32, k: u32, d: u32) -> u32
     ensures { result ≡ v / 256 ^ k % 256 ^ d }
 {
     let u = word::shift_right(v, 8 * k);
-    if d == 1 {
-        return u % 256;
+    match d {
+        1 => u % 0x100,
+        2 => u % 0x1_0000,
+        _ => u,
     }
-    if d == 2 {
-        return u % 65536;
+}
+
+// The store in a record.
+fn store_at(b: &[u32], number: u32) -> Store
+    requires b_len { length b.now ≡ 256 }
+    requires number_bound { number < 32 }
+    ensures { result ≡ store_in b.now number }
+{
+    let i = RECORDS + RECORD_WORDS * (number as usize);
+    Store {
+        address: b[i + 1],
+        value: b[i + 2],
+        width: b[i + 3],
     }
-    u
 }
 
 // The bytes of an access that the store in a record forwards.
@@ -146,9 +154,9 @@ fn forwarded(b: &[u32], number: u32, a: u32, d: u32) -> u32
     requires d_value { y.sized d ≡ true }
     ensures { result ≡ (store_in b.now number).value / 256 ^ minus 32 a (store_in b.now number).address % 256 ^ d }
 {
-    let i = RECORDS + RECORD_WORDS * (number as usize);
-    let k = word::sub(a, b[i + 1]);
-    part(b[i + 2], k, d)
+    let s = store_at(b, number);
+    let k = word::sub(a, s.address);
+    part(s.value, k, d)
 }
 
 // Whether an address is that of a port.
@@ -160,77 +168,79 @@ pub fn is_port(a: u32) -> bool
 }
 
 // The d bytes of memory at an address.
-pub fn read_memory(memory: &[u8], a: u32, d: u32) -> Read
+pub fn read_memory(memory: &[u8], a: u32, d: u32) -> Option<u32>
     requires { y.aligned a d ≡ true }
     ensures { result ≡ y.reads d (y.memory_byte memory.now) a }
 {
     let at = a as usize;
     let n = d as usize;
     if memory.len() < at + n {
-        return Read::Nowhere;
+        return None;
     }
     if d == 4 {
-        return Read::There(word::read_word(memory, at));
+        return Some(word::read_word(memory, at));
     }
-    Read::There(word::read(memory, at, n))
+    Some(word::read(memory, at, n))
 }
 
 // The d bytes at an address where no pending store hits: of a port, or of memory.
-fn read_beneath(b: &[u32], select: u32, window: u32, memory: &[u8], a: u32, d: u32) -> Read
+fn read_beneath(b: &[u32], select: u32, window: u32, memory: &[u8], a: u32, d: u32) -> Option<u32>
     requires b_len { length b.now ≡ 256 }
     requires d_value { y.aligned a d ≡ true }
     ensures { result ≡ y.reads d (y.ms [] (y.ports_of b.now select window) memory.now) a }
 {
     let at = a as usize;
     if check::is_local_port(at) {
-        return Read::There(part(b[PORTS + (at - LOCAL_PORTS) / 4], a % 4, d));
+        return Some(part(b[PORTS + (at - LOCAL_PORTS) / 4], a % 4, d));
     }
     if check::is_io_port(at) {
-        if at - IO_PORTS < 4 {
-            return Read::There(part(select, a % 4, d));
-        }
-        return Read::There(part(window, a % 4, d));
+        let port = if at - IO_PORTS < 4 { select } else { window };
+        return Some(part(port, a % 4, d));
     }
     read_memory(memory, a, d)
 }
 
 // A load: a hazard, the bytes that one pending store forwards, or those beneath.
-pub fn load(b: &[u32], select: u32, window: u32, memory: &[u8], a: u32, d: u32) -> Loaded
+pub fn load(
+    b: &[u32],
+    select: u32,
+    window: u32,
+    memory: &[u8],
+    a: u32,
+    d: u32,
+) -> Result<Loaded, LoadError>
     requires b_len { length b.now ≡ 256 }
     requires b_value { sound_records (length memory.now) b.now ≡ true }
     requires d_value { y.aligned a d ≡ true }
     ensures { result ≡ y.loaded (stores b.now) (y.ports_of b.now select window) memory.now a d }
 {
-    let f = find(b, a, d);
-    match f {
-        Source::Nothing => {
-            let r = read_beneath(b, select, window, memory, a, d);
-            match r {
-                Read::There(v) => Loaded::Value(v, Hit::Miss),
-                Read::Nowhere => Loaded::Nowhere,
-            }
-        }
-        Source::One(place, number) => Loaded::Value(forwarded(b, number, a, d), Hit::At(place)),
-        Source::Mixed => Loaded::Hazard,
+    match find(b, a, d) {
+        Source::Nothing => match read_beneath(b, select, window, memory, a, d) {
+            Some(value) => Ok(Loaded {
+                value,
+                served_by: None,
+            }),
+            None => Err(LoadError::Nowhere),
+        },
+        Source::One(place, number) => Ok(Loaded {
+            value: forwarded(b, number, a, d),
+            served_by: Some(place),
+        }),
+        Source::Mixed => Err(LoadError::Hazard),
     }
 }
 
 // The oldest pending store.
-pub fn oldest_store(b: &[u32]) -> Oldest
+pub fn oldest_store(b: &[u32]) -> Option<Store>
     requires b_len { length b.now ≡ 256 }
     requires b_value { linked b.now ≡ true }
     ensures { result ≡ z.oldest (stores b.now) }
 {
     let n = b[STORE_HEAD];
     if n == 0 {
-        return Oldest::Empty;
+        return None;
     }
-    let i = RECORDS + RECORD_WORDS * (n as usize);
-    Oldest::Leaves(Store {
-        address: b[i + 1],
-        value: b[i + 2],
-        width: b[i + 3],
-    })
+    Some(store_at(b, n))
 }
 
 // Ports take words only.

@@ -39,6 +39,10 @@ module _ {d : List ℕ} {r : ℕ} {b : List ℕ} (C : Chaining d r b) where
   pub chaining_next : r < 30 → Chaining d (r + 1) (set b (record_at (r + 1)) (r + 1 + 1))
   chaining_next h = record { long = C.long; bound = omega arith; done = ap (λ (l : List ℕ). set l (record_at (r + 1)) (r + 1 + 1)) C.done ∙ chained_next r d }
 
+  -- the loop's own count runs one ahead
+  pub chaining_turn : (s n : ℕ) → s ≡ r + 1 → n ≡ r + 1 → r < 30 → Chaining d n (set b (record_at s) (s + 1))
+  chaining_turn s n e f h = rw (e, f) (chaining_next h)
+
   pub chaining_end : 30 ≤ r → b ≡ chained 30 d
   chaining_end h = let e : r ≡ 30 = omega (arith, C.bound) in C.done ∙ ap (λ (s : ℕ). chained s d) e
 

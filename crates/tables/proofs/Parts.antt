@@ -1,12 +1,18 @@
 -- Sound tables by their parts, and the parts by facts.
 -- Assumes nothing.
 use mathlib.Core.Path.{◌≡◌, refl, sym, ap, ◌∙◌}
-use Prim.Native.Nat.{ℕ, zero, suc, ◌+◌, ◌-◌, ◌*◌, ◌^◌, ◌<◌, ◌≤◌}
+use Prim.Native.Nat.{ℕ, zero, suc, ◌+◌, ◌*◌, ◌^◌, ◌<◌, ◌≤◌}
 use mathlib.Core.Bool.{Bool, true, false, ◌&&◌}
 use mathlib.Core.List.{List}
 use native.Mathlib.Omega.{arith}
 use native.Mathlib.Decide.{ℕ_discrete}
-use lib.ListN.{length}
+use native.Mathlib.Nat.{zero-add}
+use lib.ListN.{length, get_or}
+use Rattle.std.specs.Bool.{MatchBool}
+use Rattle.std.specs.List.{AllWithin, HoldsAt, range_with_len}
+use Rattle.std.proofs.lemmas.List.FromFn.{length-range_with_len, get_or-range_with_len}
+use Rattle.std.proofs.lemmas.Bool.{false_from_ne_true}
+use Rattle.word.proofs.Tests.{true_false}
 use lib.Dec.{eqb, leb}
 use borrow.Author.Tests.{eq-eqb, eqb-true, lt-ltb, ltb-true, le-leb, leb-true}
 use Rattle.layout.specs.Layout as at
@@ -70,18 +76,6 @@ module _ (n : ℕ) (t : List ℕ) where
 -- ---- the blocks
 
 -- b, the block of the last of k cores, is sound or not, as r says
-pub blocks_step : (k n : ℕ) (t b : List ℕ) (r : Bool) → 0 < k → b ≡ block t (k - 1) → r ≡ sound_block n b → r && sound_blocks (k - 1) n t ≡ sound_blocks k n t
-unfolding sound_blocks
-blocks_step zero n t b r h p q = absurd (omega arith)
-blocks_step (suc k) n t b r h p q =
-    let e : suc k - 1 ≡ k = omega arith in
-    ap (λ (s : Bool). s && sound_blocks (suc k - 1) n t) (q ∙ ap (sound_block n) p) ∙ ap (λ (j : ℕ). sound_block n (block t j) && sound_blocks j n t) e
-
-pub blocks_none : (k n : ℕ) (t : List ℕ) → k ≤ 0 → sound_blocks k n t ≡ true
-unfolding sound_blocks
-blocks_none zero n t h = refl
-blocks_none (suc k) n t h = absurd (omega arith)
-
 pub blocks_elim : (k n : ℕ) (t : List ℕ) → sound_blocks k n t ≡ true → (j : ℕ) → j < k → sound_block n (block t j) ≡ true
 unfolding sound_blocks
 blocks_elim zero n t e j h = absurd (omega arith)
@@ -93,6 +87,20 @@ pub blocks_intro : (k n : ℕ) (t : List ℕ) → ((j : ℕ) → j < k → sound
 unfolding sound_blocks
 blocks_intro zero n t f = refl
 blocks_intro (suc k) n t f = and_both (sound_block n (block t k)) (sound_blocks k n t) (f k (omega arith)) (blocks_intro k n t (λ j h. f j (omega arith)))
+
+-- a test of each core's block
+pub blocks_by : (k n : ℕ) (t : List ℕ) (r : Bool) →
+    MatchBool r (AllWithin (λ j. sound_block n (block t j) ≡ true) (range_with_len 0 k) 0 (length (range_with_len 0 k)))
+    ((i : ℕ) × (i < length (range_with_len 0 k)) × HoldsAt (λ j. sound_block n (block t j) ≡ false) (range_with_len 0 k) i)
+    → r ≡ sound_blocks k n t
+blocks_by k n t true m =
+    sym (blocks_intro k n t (λ j h. let e : get_or (range_with_len 0 k) j 0 ≡ j = get_or-range_with_len 0 k j 0 h ∙ zero-add j in
+    ap (λ (i : ℕ). sound_block n (block t i)) (sym e) ∙ m j 0 (omega arith) (omega (arith, length-range_with_len 0 k))))
+blocks_by k n t false (i, h, m) =
+    let q : i < k = omega (arith, length-range_with_len 0 k) in
+    let e : get_or (range_with_len 0 k) i 0 ≡ i = get_or-range_with_len 0 k i 0 q ∙ zero-add i in
+    let f : sound_block n (block t i) ≡ false = ap (λ (j : ℕ). sound_block n (block t j)) (sym e) ∙ m 0 in
+    sym (false_from_ne_true (sound_blocks k n t) (λ y. true_false (sym (blocks_elim k n t y i q) ∙ f)))
 
 -- ---- a block
 

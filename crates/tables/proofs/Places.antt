@@ -2,13 +2,16 @@
 -- Assumes nothing.
 use mathlib.Core.Path.{◌≡◌, refl, sym, ap, ◌∙◌}
 use mathlib.Core.Logic.{◌≢◌, ⊎_elim, ◌⊎◌, inl, inr}
-use Prim.Native.Nat.{ℕ, zero, suc, ◌+◌, ◌<◌, ◌≤◌}
-use mathlib.Core.Bool.{true}
+use Prim.Native.Nat.{ℕ, zero, suc, ◌+◌, ◌-◌, ◌<◌, ◌≤◌}
+use mathlib.Core.Bool.{Bool, true, false}
 use mathlib.Core.List.{List}
 use native.Mathlib.Omega.{arith}
 use native.Mathlib.Decide.{ℕ_discrete}
 use lib.ListN.{length, get_or, set, take, drop, length-set, length-take, length-drop}
 use lib.Seq.{get_or-set_other, get_or-set_same, ext_get_or, get_or-take, get_or-drop}
+use Rattle.std.specs.Bool.{MatchBool}
+use Rattle.std.specs.List.{AllWithin, HoldsAt}
+use Rattle.std.proofs.lemmas.Bool.{false_from_ne_true}
 use lib.Dec.{eqb}
 use borrow.Author.Tests.{eq-eqb, eqb-true, lt-ltb, ltb-true, le-leb, leb-true}
 use Rattle.layout.specs.Layout as at
@@ -41,6 +44,25 @@ zeros_intro : (d i : ℕ) (b : List ℕ) → ((j : ℕ) → i ≤ j → j < i + 
 zeros_intro zero i b f = refl
 zeros_intro (suc d) i b f =
     and_both (eqb (get_or b i 0) 0) (zero_from d (i + 1) b) (eq-eqb (get_or b i 0) 0 (f i (omega arith) (omega arith))) (zeros_intro d (i + 1) b (λ j p q. f j (omega arith) (omega arith)))
+
+-- a test of each of the d words from i
+module _ (d i : ℕ) (b : List ℕ) (p : i + d ≤ length b) where
+  abbrev part : List ℕ
+  part = take (i + d - i) (drop i b)
+
+  part_long : length part ≡ d
+  part_long = omega (arith, length-take (i + d - i) (drop i b), length-drop i b)
+
+  part_at : (j : ℕ) → j < d → get_or part j 0 ≡ get_or b (i + j) 0
+  part_at j h = get_or-take (i + d - i) (drop i b) j 0 (omega arith) ∙ get_or-drop i b j 0
+
+  pub zeros_by : (r : Bool) → MatchBool r (AllWithin (λ x. x ≡ 0) part 0 (length part)) ((k : ℕ) × (k < length part) × HoldsAt (λ x. x ≢ 0) part k) → r ≡ zero_from d i b
+  zeros_by true m =
+      sym (zeros_intro d i b (λ j g h. let e : i + (j - i) ≡ j = omega arith in
+      ap (λ (n : ℕ). get_or b n 0) (sym e) ∙ sym (part_at (j - i) (omega arith)) ∙ m (j - i) 0 (omega arith) (omega (arith, part_long))))
+  zeros_by false (k, h, m) =
+      let q : k < d = omega (arith, part_long) in
+      sym (false_from_ne_true (zero_from d i b) (λ y. m 0 (part_at k q ∙ zeros_elim d i b y (i + k) (omega arith) (omega arith))))
 
 module _ (b : List ℕ) where
   pub words_facts : sound_words b ≡ true → Words b

@@ -17,6 +17,9 @@ use Rattle.records.proofs.Counts.{either}
 use Rattle.layout.specs.Blocks.{block}
 use Rattle.tables.specs.Views.{registers_of, running_of}
 use Rattle.tables.specs.Sound.{up_to, sound_words, sound_block, sound}
+use Rattle.std.proofs.lemmas.Option.{none-some}
+use Rattle.std.specs.Prelude.{Option, Some, None}
+use Rattle.refusals.specs.declared.Refusal.{Refusal}
 use Rattle.tables.specs.Make.{chained, made_running, made_block, made_blocks, made, whole_pages, refusal}
 use Rattle.tables.proofs.Fresh.{block_long, blocks_long}
 use Rattle.tables.proofs.Parts.{of_header, blocks_intro, of_sound}
@@ -76,14 +79,14 @@ module _ (k : ℕ) where
 
 -- ---- an accepted call
 
-tests_of : (p q r : Bool) → ◌≡◌ {A = ℕ} (elim p [ false ↦ 1 | true ↦ elim q [ false ↦ 2 | true ↦ elim r [ false ↦ 3 | true ↦ 0 ] ] ]) 0 → (p ≡ true) × (q ≡ true) × (r ≡ true)
+tests_of : (p q r : Bool) → ◌≡◌ {A = Option Refusal} (elim p [ false ↦ Some Refusal.Cores | true ↦ elim q [ false ↦ Some Refusal.Memory | true ↦ elim r [ false ↦ Some Refusal.TableLength | true ↦ None ] ] ]) None → (p ≡ true) × (q ≡ true) × (r ≡ true)
 tests_of true true true e = (refl, refl, refl)
-tests_of true true false e = absurd (omega arith)
-tests_of true false r e = absurd (omega arith)
-tests_of false q r e = absurd (omega arith)
+tests_of true true false e = absurd (none-some _ (sym e))
+tests_of true false r e = absurd (none-some _ (sym e))
+tests_of false q r e = absurd (none-some _ (sym e))
 
 -- leaves sound tables
-pub make_sound : (n m l : ℕ) → refusal n m l ≡ 0 → sound (made n (m / 4096)) m ≡ true
+pub make_sound : (n m l : ℕ) → refusal n m l ≡ None → sound (made n (m / 4096)) m ≡ true
 unfolding refusal
 make_sound n m l e =
     let p = tests_of (up_to at.most_cores n) (whole_pages m) (eqb l (at.table_words n)) e in

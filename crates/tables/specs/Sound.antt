@@ -36,7 +36,8 @@ unfoldable pub sound_blocks : ℕ → ℕ → List ℕ → Bool
 sound_blocks zero n t = true
 sound_blocks (suc k) n t = sound_block n (block t k) && sound_blocks k n t
 
--- words 0 and 1 are 1 to 4 and 1 to 4,096, the lengths agree with them, the fixed zeros are zero, and lines use bits 0 to 23
+-- words 0 and 1 are 1 to 4 and 1 to 4,096, the lengths agree with them, the fixed zeros are zero, and lines use bits 0
+-- to 23
 unfoldable pub sound_header : ℕ → List ℕ → Bool
 sound_header n t =
     up_to at.most_cores (cores_of t)

@@ -2,6 +2,7 @@
 #![tactic(auto)]
 
 pub mod block;
+pub mod machine;
 pub mod make;
 pub mod registers;
 
@@ -20,16 +21,7 @@ fn zero_from(l: &[u32], i: usize, d: usize) -> bool
     requires { i + d ≤ length l.now }
     ensures { result ≡ x.zero_from d i l.now }
 {
-    let mut at = i;
-    let mut k = d;
-    while 0 < k {
-        if l[at] != 0 {
-            return false;
-        }
-        at += 1;
-        k -= 1;
-    }
-    true
+    l[i..i + d].iter().all(|x| *x == 0)
 }
 
 // Whether the words of a block below the records are sound.
@@ -61,14 +53,7 @@ fn sound_blocks(tables: &[u32], cores: u32, bytes: usize) -> bool
     requires { (cores ≤ 4) × (block_at cores ≤ length tables.now) }
     ensures { result ≡ x.sound_blocks cores bytes tables.now }
 {
-    let mut k = cores;
-    while 0 < k {
-        k -= 1;
-        if !sound_block(layout::block(tables, k), bytes) {
-            return false;
-        }
-    }
-    true
+    (0..cores).all(|k| sound_block(layout::block(tables, k), bytes))
 }
 
 // Whether the header is sound and the lengths agree with it.

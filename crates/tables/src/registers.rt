@@ -11,25 +11,9 @@ fn words(b: &[u32], from: usize) -> [u32; 32]
     requires { from + 32 ≤ length b.now }
     ensures { result ≡ take 32 (drop from b.now) }
 {
-    let mut out = [0u32; 32];
-    let mut i: usize = 0;
-    while i < 32 {
-        out[i] = b[from + i];
-        i += 1;
-    }
+    let mut out = [0; 32];
+    out.copy_from_slice(&b[from..from + 32]);
     out
-}
-
-// 32 words at a place.
-fn put_words(b: &mut [u32], at: usize, words: [u32; 32])
-    requires { at + 32 ≤ length b.old }
-    ensures { (b.new ≡ paste b.old at words 32) × (length words ≡ 32) }
-{
-    let mut i: usize = 0;
-    while i < 32 {
-        b[at + i] = words[i];
-        i += 1;
-    }
 }
 
 // The registers of a block.
@@ -54,10 +38,8 @@ pub fn put_registers(b: &mut [u32], r: Registers)
     ensures b_after { b.new ≡ v.with_registers b.old r }
     ensures gpr_len { (length r.gpr ≡ 32) × (length r.spr ≡ 32) }
 {
-    let gpr = r.gpr;
-    let spr = r.spr;
-    put_words(b, GPR, gpr);
-    put_words(b, SPR, spr);
+    b[GPR..GPR + 32].copy_from_slice(&r.gpr);
+    b[SPR..SPR + 32].copy_from_slice(&r.spr);
     b[PC] = r.pc;
     b[HI] = r.hi;
     b[LO] = r.lo;

@@ -1,7 +1,7 @@
--- Laws of texts in a buffer: one byte more, one text after another, and the digits of a number.
+-- Laws of texts: one text after another, in a buffer and in a Text, and the digits of a number.
 -- Assumes nothing.
 use Rattle.std.specs.Prelude.{if◌then◌else◌}
-use mathlib.Core.Path.{◌≡◌, refl, sym, ap, ◌∙◌, subst}
+use mathlib.Core.Path.{◌≡◌, refl, sym, ap, ap₂, ◌∙◌, subst}
 use mathlib.Core.Bool.{Bool}
 use mathlib.Core.Logic.{⊎_elim}
 use mathlib.Core.List.{List, [], ◌∷◌, ◌++◌, append_assoc, append-nil}
@@ -9,43 +9,26 @@ use Prim.Native.Nat.{ℕ, zero, suc, ◌+◌, ◌-◌, ◌/◌, ◌%◌, ◌^◌
 use native.Mathlib.Nat.{mod-eq_of_lt, pow-suc, one-le-pow, pow-le-pow_right}
 use native.Mathlib.Numerals.{add-one}
 use native.Mathlib.Omega.{arith}
-use lib.ListN.{length, take, drop, get_or, set, length-append, length-set}
-use lib.Seq.{take-suc, take-suc-set, length-take-le, take_all, drop-set-lt, drop-drop}
+use lib.ListN.{length, take, drop, length-append, length-drop}
+use Rattle.std.proofs.Common.{replicate}
+use Rattle.std.proofs.lemmas.List.{replicate_more, take-replicate}
+use lib.Seq.{length-take-le, drop-drop}
+use borrow.Rule.Slice.PartMut.{put_mid}
+use Rattle.std.proofs.lemmas.Slice.{take-put_mid, drop-put_mid}
 use borrow.Author.Tests.{lt-ltb, le-ltb}
-use Rattle.io.specs.Counts.{IsPrefixLen}
 use Rattle.io.specs.Digits.{last_digits, hex_digit_ascii, IsDigitCount}
 use Rattle.word.proofs.Laws.{side}
+use Rattle.text.proofs.Decimals.{decimal_length}
 use Rattle.text.specs.Text.{Put, decimal_in, decimal, blanks, padded}
 
-pub none : (b : List ℕ) (at : ℕ) → Put b at [] (at + 0) b
-none b at = record { place = refl; kept = refl; front = let e : at + 0 ≡ at = omega arith in rw e (sym (append-nil (take at b))); beyond = refl }
-
 pub nothing : (b : List ℕ) (at : ℕ) → Put b at [] at b
-nothing b at = let e : at + 0 ≡ at = omega arith in rw e at (none b at)
+nothing b at = record { place = omega arith; kept = refl; front = sym (append-nil (take at b)); beyond = refl }
 
 -- what agrees from a place on agrees from any later one
 further : (c b : List ℕ) (r q : ℕ) → r ≤ q → drop r c ≡ drop r b → drop q c ≡ drop q b
 further c b r q h e =
     let k : r + (q - r) ≡ q = omega arith in
     ap (λ (n : ℕ). drop n c) (sym k) ∙ sym (drop-drop (q - r) r c) ∙ ap (drop (q - r)) e ∙ drop-drop (q - r) r b ∙ ap (λ (n : ℕ). drop n b) k
-
--- the next byte of a text
-pub one_more :
-    (b : List ℕ) (at : ℕ) (t : List ℕ) (i : ℕ) (c : List ℕ) → Put b at (take i t) (at + i) c → i < length t → at + i < length c
-    → Put b at (take (i + 1) t) (at + (i + 1)) (set c (at + i) (get_or t i 0))
-one_more b at t i c p h k =
-    record {
-      place = omega (arith, length-take-le (i + 1) t (omega arith));
-      kept = length-set c (at + i) (get_or t i 0) ∙ p.kept;
-      front =
-          let e : at + (i + 1) ≡ suc (at + i) = omega arith in
-          rw (e, take-suc-set c (at + i) (get_or t i 0) k, p.front, append_assoc, add-one i, take-suc t i 0 h);
-      beyond = drop-set-lt (at + (i + 1)) c (at + i) (get_or t i 0) (omega arith) ∙ further c b (at + i) (at + (i + 1)) (omega arith) p.beyond;
-    }
-
--- all bytes of a text
-pub whole : (b : List ℕ) (at : ℕ) (t : List ℕ) (i r : ℕ) (c : List ℕ) → Put b at (take i t) r c → length t ≤ i → Put b at t r c
-whole b at t i r c p h = subst (λ (l : List ℕ). Put b at l r c) (take_all i t h) p
 
 -- a text and then another
 pub follow : {b : List ℕ} {at : ℕ} {x : List ℕ} {r : ℕ} {c : List ℕ} {y : List ℕ} {q : ℕ} {d : List ℕ} → Put b at x r c → Put c r y q d → Put b at (x ++ y) q d
@@ -85,35 +68,6 @@ few n k h (l, s, g) =
 pub numbered : {x : List ℕ} (n k : ℕ) → n < 2 ^ 64 → x ≡ last_digits 10 k n → IsDigitCount 10 1 n k → x ≡ decimal n
 numbered n k h e w = e ∙ spelled 20 k n (few n k h w) w
 
-pub counts : (n : ℕ) (l : List ℕ) → n ≤ length l → IsPrefixLen n l
-counts n l h = (h, sym (length-take-le n l h))
-
--- one byte after a text
-pub then_byte :
-    (b : List ℕ) (at : ℕ) (x : List ℕ) (r : ℕ) (c : List ℕ) (v : ℕ) → Put b at x r c → r < length c
-    → Put b at (x ++ (v ∷ [])) (r + 1) (set c r v)
-then_byte b at x r c v p h =
-    record {
-      place = omega (arith, length-append x (v ∷ []), p.place);
-      kept = length-set c r v ∙ p.kept;
-      front = rw (add-one r, take-suc-set c r v h, p.front, append_assoc);
-      beyond = drop-set-lt (r + 1) c r v (omega arith) ∙ further c b r (r + 1) (omega arith) p.beyond;
-    }
-
--- one byte
-pub single : (b : List ℕ) (at v : ℕ) → at < length b → Put b at (v ∷ []) (at + 1) (set b at v)
-single b at v h =
-    let e : at + 0 ≡ at = omega arith in
-    then_byte b at [] at b v (subst (λ (r : ℕ). Put b at [] r b) e (none b at)) h
-
-pub blank_more :
-    (b : List ℕ) (at i : ℕ) (c : List ℕ) → Put b at (blanks i) (at + i) c → at + i < length c → Put b at (blanks (i + 1)) (at + (i + 1)) (set c (at + i) 32)
-unfolding blanks
-blank_more b at i c p h =
-    let e : at + i + 1 ≡ at + (i + 1) = omega arith in
-    subst (λ (n : ℕ). Put b at (blanks n) (at + (i + 1)) (set c (at + i) 32)) (sym (add-one i))
-    (subst (λ (r : ℕ). Put b at (blanks i ++ (32 ∷ [])) r (set c (at + i) 32)) e (then_byte b at (blanks i) (at + i) c 32 p h))
-
 pub length_blanks : (n : ℕ) → length (blanks n) ≡ n
 unfolding blanks
 length_blanks zero = refl
@@ -127,26 +81,68 @@ exact n w k low high h (l, s, g) =
     (λ (u : w + 1 ≤ k). absurd (omega (arith, g (omega arith), pow-le-pow_right {n = 16} (omega arith) {i = w} {j = k - 1} (omega arith))))
     (side k (w + 1))
 
-pub hexed :
-    {b : List ℕ} {at : ℕ} {x : List ℕ} {r : ℕ} {c : List ℕ} (n w k : ℕ) → 0 < w → w ≤ 16 → n < 16 ^ w → Put b at x r c → x ≡ last_digits 16 k n → k ≡ length x
-    → IsDigitCount 16 (min (max w 1) 16) n k → Put b at (last_digits 16 w n) r c × (r ≡ at + w)
-hexed {b} {at} {x} {r} {c} n w k low high h p e l f =
-    let q : k ≡ w = exact n w k low high h f in
-    (subst (λ (t : List ℕ). Put b at t r c) (e ∙ ap (λ (j : ℕ). last_digits 16 j n) q) p, omega (arith, p.place))
+-- a text written over a part of a buffer
+pub put_there :
+    (b : List ℕ) (at : ℕ) (t : List ℕ) {l : List ℕ} → at + length t ≤ length b → l ≡ t
+    → Put b at t (at + length t) (put_mid at (at + length t - at) b l)
+put_there b at t h e =
+    rw e record {
+      place = refl;
+      kept =
+          let rest : List ℕ = drop (at + length t - at) (drop at b) in
+          omega (
+            arith,
+            h,
+            length-append (take at b) (t ++ rest),
+            length-append t rest,
+            length-take-le at b (omega (arith, h)),
+            length-drop (at + length t - at) (drop at b),
+            length-drop at b,
+          );
+      front = take-put_mid at (at + length t - at) b t (at + length t) refl (omega (arith, h));
+      beyond = drop-put_mid at (at + length t - at) b t (at + length t) (omega arith) (omega (arith, h)) (omega arith);
+    }
 
 -- the same text in other words
 pub reworded : {b : List ℕ} {at : ℕ} {x y : List ℕ} {r : ℕ} {c : List ℕ} → x ≡ y → Put b at x r c → Put b at y r c
 reworded {b} {at} {x} {y} {r} {c} e p = subst (λ (t : List ℕ). Put b at t r c) e p
 
--- blanks and then a number's digits
-pub lined :
-    {b : List ℕ} {at : ℕ} {i : ℕ} {q : ℕ} {d : List ℕ} {x : List ℕ} {r : ℕ} {c : List ℕ} (n w k : ℕ) → n < 2 ^ 64 → w ≤ 20 → Put b at (blanks i) q d
-    → Put d q x r c → i ≡ w - k → x ≡ last_digits 10 k n → k ≡ length x → IsDigitCount 10 1 n k → Put b at (padded w n) r c × (r ≤ at + 20)
+-- the digits that a width holds, counted as io::hex counts them
+pub hex_digits :
+    {x : List ℕ} (n w k : ℕ) → 0 < w → w ≤ 16 → n < 16 ^ w → x ≡ last_digits 16 k n → IsDigitCount 16 (min (max w 1) 16) n k → x ≡ last_digits 16 w n
+hex_digits n w k low high h e f = e ∙ ap (λ (j : ℕ). last_digits 16 j n) (exact n w k low high h f)
+
+pub blanks_is : (n : ℕ) → replicate n 32 ≡ blanks n
+unfolding blanks
+blanks_is zero = refl
+blanks_is (suc n) = ap (λ (k : ℕ). replicate k 32) (sym (add-one n)) ∙ sym (replicate_more n 32) ∙ ap (λ (l : List ℕ). l ++ (32 ∷ [])) (blanks_is n)
+
+-- some blanks of 20, and then a number's digits
+pub padded_is :
+    {x : List ℕ} (n w k : ℕ) → n < 2 ^ 64 → w ≤ 20 → x ≡ last_digits 10 k n → k ≡ length x → IsDigitCount 10 1 n k
+    → take (w - k) (replicate 20 32) ++ x ≡ padded w n
 unfolding padded
-lined {b} {at} {i} {q} {d} {x} {r} {c} n w k h v p s j e l f =
-    let g : k ≤ 20 = few n k h f in
-    let t : x ≡ decimal n = e ∙ spelled 20 k n g f in
-    let u : w - k ≡ w - length (decimal n) = ap (λ (a : ℕ). w - a) (l ∙ ap length t) in (
-      follow (reworded (ap blanks (j ∙ u)) p) (reworded t s),
-      omega (arith, p.place, s.place, length_blanks i),
-    )
+padded_is {x} n w k h v e l f =
+    let t : x ≡ decimal n = numbered n k h e f in
+    let u : w - k ≡ w - length (decimal n) = ap (λ (a : ℕ). w - a) (l ∙ ap length t) in
+    ap (λ (b : List ℕ). b ++ x) (take-replicate (w - k) 20 32 (omega arith) ∙ blanks_is (w - k)) ∙ ap₂ (λ (i : ℕ) (d : List ℕ). blanks i ++ d) u t
+
+pub padded_length : (w n : ℕ) → w ≤ 20 → length (padded w n) ≤ 20
+unfolding padded
+padded_length w n h = omega (arith, length-append (blanks (w - length (decimal n))) (decimal n), length_blanks (w - length (decimal n)), decimal_length 20 n)
+
+-- a text that was begun, written and put into a buffer
+pub written :
+    {t u v x b c : List ℕ} {at r : ℕ} → t ≡ [] → u ≡ t ++ x → v ≡ u → Put b at v r c → Put b at x r c
+written {t} {u} {v} {x} e f g p = reworded (g ∙ f ∙ ap (λ (l : List ℕ). l ++ x) e) p
+
+-- a text that has grown twice; and one that has not
+pub grown : (s x y : List ℕ) {t u z : List ℕ} → t ≡ s ++ x → u ≡ t ++ y → x ++ y ≡ z → u ≡ s ++ z
+grown s x y e f g = f ∙ ap (λ (l : List ℕ). l ++ y) e ∙ append_assoc s x y ∙ ap (λ (l : List ℕ). s ++ l) g
+
+pub as_it_was : (s : List ℕ) {x : List ℕ} → [] ≡ x → s ≡ s ++ x
+as_it_was s e = sym (append-nil s) ∙ ap (λ (l : List ℕ). s ++ l) e
+
+-- what was added, in other words
+pub told : (s x : List ℕ) {u y : List ℕ} → u ≡ s ++ x → x ≡ y → u ≡ s ++ y
+told s x e f = e ∙ ap (λ (l : List ℕ). s ++ l) f

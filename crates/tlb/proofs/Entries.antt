@@ -1,6 +1,6 @@
 -- Laws of page table entries: the accessed bit and the other fields, and the bytes of an entry in memory.
 -- Assumes nothing.
-use Rattle.std.specs.Prelude.{if◌then◌else◌}
+use Rattle.std.specs.Prelude.{if◌then◌else◌, Some, None}
 use mathlib.Core.Path.{◌≡◌, refl, sym, ap, ap₂, subst, ◌∙◌}
 use mathlib.Core.Bool.{Bool, true, false}
 use mathlib.Core.List.{List}
@@ -12,7 +12,6 @@ use lib.Dec.{eqb, leb}
 use borrow.Author.Tests.{eq-eqb, ne_eqb, eqb-true, eqb-false, le-leb, lt-leb}
 use Rattle.word.specs.Bytes.{bytes_at, put}
 use Rattle.word.proofs.Bytes.{Bytes}
-use Rattle.tlb.specs.declared.Entry.TheVariants.{Word, Missing}
 use Rattle.tlb.specs.Walks.{pte_ba, pte_p, pte_r, pte_a, set_d, entry_at}
 
 -- ---- the accessed bit
@@ -70,22 +69,22 @@ module _ (e f : ℕ) (h : e / 2 ^ 8 ≡ f / 2 ^ 8) where
 
 -- ---- entries in memory
 
-pub entry_in : (m : List ℕ) (a : ℕ) → a + 4 ≤ length m → Word (bytes_at 4 m a) ≡ entry_at m a
+pub entry_in : (m : List ℕ) (a : ℕ) → a + 4 ≤ length m → Some (bytes_at 4 m a) ≡ entry_at m a
 unfolding entry_at
 entry_in m a h = rw (le-leb (a + 4) (length m) h)
 
 module _ (m : List ℕ) {a b : ℕ} (e : b ≡ a) where
-  pub read_in : {v : ℕ} → v ≡ bytes_at 4 m b → b + 4 ≤ length m → Word v ≡ entry_at m a
-  read_in f h = ap Word f ∙ entry_in m b h ∙ ap (entry_at m) e
+  pub read_in : {v : ℕ} → v ≡ bytes_at 4 m b → b + 4 ≤ length m → Some v ≡ entry_at m a
+  read_in f h = ap Some f ∙ entry_in m b h ∙ ap (entry_at m) e
 
-  pub read_out : length m < b + 4 → Missing ≡ entry_at m a
+  pub read_out : length m < b + 4 → None ≡ entry_at m a
   unfolding entry_at
   read_out h = rw (← e, lt-leb (b + 4) (length m) h)
 
 -- an entry is what its four bytes are, and whether they are there
 pub entry_same : (m n : List ℕ) (a : ℕ) → ((j : ℕ) → a ≤ j → j < a + 4 → get_or m j 0 ≡ get_or n j 0) → leb (a + 4) (length m) ≡ leb (a + 4) (length n) → entry_at m a ≡ entry_at n a
 unfolding entry_at
-entry_same m n a f e = ap₂ (λ (t : Bool) (v : ℕ). if t then Word v else Missing) e (go 4 a (λ j p q. f j p q))
+entry_same m n a f e = ap₂ (λ (t : Bool) (v : ℕ). if t then Some v else None) e (go 4 a (λ j p q. f j p q))
   where
     go : (d i : ℕ) → ((j : ℕ) → i ≤ j → j < i + d → get_or m j 0 ≡ get_or n j 0) → bytes_at d m i ≡ bytes_at d n i
     go zero i g = refl

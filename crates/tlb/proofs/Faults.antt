@@ -1,18 +1,17 @@
 -- What the code's cases show of faults.
 -- Assumes nothing.
+use Rattle.std.specs.Prelude.{Option, Some, None}
 use mathlib.Core.Path.{◌≡◌}
 use mathlib.Core.Bool.{Bool, true, false, not, ◌&&◌}
 use mathlib.Core.List.{List}
 use Prim.Native.Nat.{ℕ}
 use Rattle.records.specs.declared.Walk.{Walk}
 use Rattle.tlb.specs.declared.Request.{Request}
-use Rattle.tlb.specs.declared.Entry.{Entry}
-use Rattle.tlb.specs.declared.Entry.TheVariants.{Word, Missing}
 use Rattle.tlb.specs.declared.Faulting.TheVariants.{Faults, Passes, Undecided}
 use Rattle.tlb.specs.Walks.{complete, hit, pte, wext_fault, entry_fault, fault_by, fault}
 
 -- what an extension gives, by the entry and its fault f
-module _ (r : ℕ) {e : Entry} {v : ℕ} (p : e ≡ Word v) {f : Bool} (q : f ≡ wext_fault v r) where
+module _ (r : ℕ) {e : Option ℕ} {v : ℕ} (p : e ≡ Some v) {f : Bool} (q : f ≡ wext_fault v r) where
   pub word_faults : f ≡ true → Faults ≡ entry_fault r e
   unfolding entry_fault
   word_faults t = rw (p, ← q, t)
@@ -21,7 +20,7 @@ module _ (r : ℕ) {e : Entry} {v : ℕ} (p : e ≡ Word v) {f : Bool} (q : f �
   unfolding entry_fault
   word_passes t = rw (p, ← q, t)
 
-pub missing_undecided : (r : ℕ) {e : Entry} → e ≡ Missing → Undecided ≡ entry_fault r e
+pub missing_undecided : (r : ℕ) {e : Option ℕ} → e ≡ None → Undecided ≡ entry_fault r e
 unfolding entry_fault
 missing_undecided r p = rw p
 

@@ -1,6 +1,6 @@
 -- Laws of the TLB's own steps: what an accepted one has shown, that what it adds is sound, and what it writes.
 -- Assumes nothing.
-use Rattle.std.specs.Prelude.{if◌then◌else◌}
+use Rattle.std.specs.Prelude.{if◌then◌else◌, Ok, Err, Option, Some, None}
 use mathlib.Core.Path.{◌≡◌, refl, subst}
 use mathlib.Core.Bool.{Bool, true, false, ◌&&◌, ◌||◌, not}
 use mathlib.Core.List.{List, [], ◌∷◌}
@@ -12,50 +12,48 @@ use borrow.Author.Tests.{eqb-true, leb-true, not-true}
 use Rattle.word.specs.Bytes.{bytes_at}
 use Rattle.word.proofs.Bytes.{Bytes, bytes_lt}
 use Rattle.word.proofs.Truth.{and_left, and_right}
+use Rattle.refusals.specs.declared.Refusal.{Refusal}
+use Rattle.refusals.specs.declared.Refusal.TheVariants.{NoNextState}
 use Rattle.records.specs.declared.Walk.{Walk}
 use Rattle.records.specs.Records.{all, same, among}
 use Rattle.records.specs.Contents.{walk_sound}
-use Rattle.tlb.specs.declared.Entry.{Entry}
-use Rattle.tlb.specs.declared.Entry.TheVariants.{Word, Missing}
-use Rattle.tlb.specs.declared.Decision.TheVariants.{Refused, Adds, Marks}
+use Rattle.tlb.specs.declared.Change.{Change}
+use Rattle.tlb.specs.declared.Change.TheVariants.{Adds, Marks}
 use Rattle.tlb.specs.Walks.{pte_a, pte_p, ptea, entry_at, complete, winit, wext, wext_fault, set_d}
 use Rattle.tlb.specs.Steps.{tlb_create, extendable, on_extend, tlb_extend, on_accessed, tlb_accessed}
 use Rattle.tlb.proofs.Fields.{same_walk}
 
--- two decisions that are not the same
-refused_adds : {n : ℕ} {w : Walk} → Refused n ≡ Adds w → ⊥
-refused_adds e = let z : ◌≡◌ {A = ℕ} 0 1 = cc in omega arith
-
-refused_marks : {n a v : ℕ} → Refused n ≡ Marks a v → ⊥
-refused_marks e = let z : ◌≡◌ {A = ℕ} 0 1 = cc in omega arith
+-- a refusal changes nothing
+refused_ok : {r : Refusal} {x : Change} → Err r ≡ Ok x → ⊥
+refused_ok e = let z : ◌≡◌ {A = ℕ} 0 1 = cc in omega arith
 
 -- ---- entries that are there
 
-pub entry_word : (m : List ℕ) (a : ℕ) {v : ℕ} → entry_at m a ≡ Word v → (v ≡ bytes_at 4 m a) × (a + 4 ≤ length m)
+pub entry_word : (m : List ℕ) (a : ℕ) {v : ℕ} → entry_at m a ≡ Some v → (v ≡ bytes_at 4 m a) × (a + 4 ≤ length m)
 unfolding entry_at
 entry_word m a {v} = go (leb (a + 4) (length m)) refl
   where
-    go : (t : Bool) → leb (a + 4) (length m) ≡ t → (if t then Word (bytes_at 4 m a) else Missing) ≡ Word v → (v ≡ bytes_at 4 m a) × (a + 4 ≤ length m)
+    go : (t : Bool) → leb (a + 4) (length m) ≡ t → (if t then Some (bytes_at 4 m a) else None) ≡ Some v → (v ≡ bytes_at 4 m a) × (a + 4 ≤ length m)
     go true p e = let q : v ≡ bytes_at 4 m a = cc in (q, leb-true (a + 4) (length m) p)
     go false p e = absurd (let z : ◌≡◌ {A = ℕ} 0 1 = cc in omega arith)
 
-pub entry_lt : (m : List ℕ) (a : ℕ) {v : ℕ} → Bytes m → entry_at m a ≡ Word v → v < 2 ^ 32
+pub entry_lt : (m : List ℕ) (a : ℕ) {v : ℕ} → Bytes m → entry_at m a ≡ Some v → v < 2 ^ 32
 entry_lt m a h e = omega (arith, (entry_word m a e).0, bytes_lt 4 m a h)
 
 -- ---- what an accepted step has shown
 
-pub create_adds : (u r : Bool) (o a v : ℕ) {x : Walk} → tlb_create u r o a v ≡ Adds x → ((u && r) ≡ true) × (x ≡ winit v o a)
+pub create_adds : (u r : Bool) (o a v : ℕ) {x : Walk} → tlb_create u r o a v ≡ Ok (Adds x) → ((u && r) ≡ true) × (x ≡ winit v o a)
 unfolding tlb_create
 create_adds u r o a v {x} = go (u && r) refl
   where
-    go : (t : Bool) → (u && r) ≡ t → (if t then Adds (winit v o a) else Refused 6) ≡ Adds x → ((u && r) ≡ true) × (x ≡ winit v o a)
+    go : (t : Bool) → (u && r) ≡ t → (if t then Ok (Adds (winit v o a)) else Err NoNextState) ≡ Ok (Adds x) → ((u && r) ≡ true) × (x ≡ winit v o a)
     go true p e = (p, let q : x ≡ winit v o a = cc in q)
-    go false p e = absurd (refused_adds e)
+    go false p e = absurd (refused_ok e)
 
-pub record Extended (r : Bool) (a : ℕ) (tlb : List Walk) (w : Walk) (e : Entry) (x : Walk) : Type 0 where
+pub record Extended (r : Bool) (a : ℕ) (tlb : List Walk) (w : Walk) (e : Option ℕ) (x : Walk) : Type 0 where
   pub guards : (r && extendable a tlb w) ≡ true
   pub word : ℕ
-  pub entry : e ≡ Word word
+  pub entry : e ≡ Some word
   pub accessed : pte_a word ≡ true
   pub present : pte_p word ≡ true
   pub walk : x ≡ wext w word
@@ -69,11 +67,11 @@ no_fault v = go (pte_p v) _
     go true s e = refl
     go false s e = e
 
-pub extend_adds : (r : Bool) (a : ℕ) (tlb : List Walk) (w : Walk) (e : Entry) {x : Walk} → tlb_extend r a tlb w e ≡ Adds x → Extended r a tlb w e x
+pub extend_adds : (r : Bool) (a : ℕ) (tlb : List Walk) (w : Walk) (e : Option ℕ) {x : Walk} → tlb_extend r a tlb w e ≡ Ok (Adds x) → Extended r a tlb w e x
 unfolding tlb_extend on_extend
 extend_adds r a tlb w e {x} = outer (r && extendable a tlb w) refl
   where
-    inner : (v : ℕ) (t : Bool) → (r && extendable a tlb w) ≡ true → (pte_a v && not (wext_fault v 0)) ≡ t → (if t then Adds (wext w v) else Refused 6) ≡ Adds x → Extended r a tlb w (Word v) x
+    inner : (v : ℕ) (t : Bool) → (r && extendable a tlb w) ≡ true → (pte_a v && not (wext_fault v 0)) ≡ t → (if t then Ok (Adds (wext w v)) else Err NoNextState) ≡ Ok (Adds x) → Extended r a tlb w (Some v) x
     inner v true g p q =
         record {
           guards = g;
@@ -83,29 +81,29 @@ extend_adds r a tlb w e {x} = outer (r && extendable a tlb w) refl
           present = no_fault v (and_right (pte_a v) _ p);
           walk = let s : x ≡ wext w v = cc in s;
         }
-    inner v false g p q = absurd (refused_adds q)
+    inner v false g p q = absurd (refused_ok q)
 
-    by_entry : (e : Entry) → (r && extendable a tlb w) ≡ true → on_extend w e ≡ Adds x → Extended r a tlb w e x
-    by_entry (Word v) g q = inner v (pte_a v && not (wext_fault v 0)) g refl q
-    by_entry Missing g q = absurd (refused_adds q)
+    by_entry : (e : Option ℕ) → (r && extendable a tlb w) ≡ true → on_extend w e ≡ Ok (Adds x) → Extended r a tlb w e x
+    by_entry (Some v) g q = inner v (pte_a v && not (wext_fault v 0)) g refl q
+    by_entry None g q = absurd (refused_ok q)
 
-    outer : (t : Bool) → (r && extendable a tlb w) ≡ t → (if t then on_extend w e else Refused 6) ≡ Adds x → Extended r a tlb w e x
+    outer : (t : Bool) → (r && extendable a tlb w) ≡ t → (if t then on_extend w e else Err NoNextState) ≡ Ok (Adds x) → Extended r a tlb w e x
     outer true g q = by_entry e g q
-    outer false g q = absurd (refused_adds q)
+    outer false g q = absurd (refused_ok q)
 
-pub record Marked (u : Bool) (a : ℕ) (tlb : List Walk) (w : Walk) (e : Entry) (at v : ℕ) : Type 0 where
+pub record Marked (u : Bool) (a : ℕ) (tlb : List Walk) (w : Walk) (e : Option ℕ) (at v : ℕ) : Type 0 where
   pub guards : (u && extendable a tlb w) ≡ true
   pub word : ℕ
-  pub entry : e ≡ Word word
+  pub entry : e ≡ Some word
   pub present : pte_p word ≡ true
   pub address : at ≡ ptea w
   pub value : v ≡ set_d word
 
-pub accessed_marks : (u : Bool) (a : ℕ) (tlb : List Walk) (w : Walk) (e : Entry) {at v : ℕ} → tlb_accessed u a tlb w e ≡ Marks at v → Marked u a tlb w e at v
+pub accessed_marks : (u : Bool) (a : ℕ) (tlb : List Walk) (w : Walk) (e : Option ℕ) {at v : ℕ} → tlb_accessed u a tlb w e ≡ Ok (Marks at v) → Marked u a tlb w e at v
 unfolding tlb_accessed on_accessed
 accessed_marks u a tlb w e {at} {v} = outer (u && extendable a tlb w) refl
   where
-    inner : (n : ℕ) (t : Bool) → (u && extendable a tlb w) ≡ true → pte_p n ≡ t → (if t then Marks (ptea w) (set_d n) else Refused 6) ≡ Marks at v → Marked u a tlb w (Word n) at v
+    inner : (n : ℕ) (t : Bool) → (u && extendable a tlb w) ≡ true → pte_p n ≡ t → (if t then Ok (Marks (ptea w) (set_d n)) else Err NoNextState) ≡ Ok (Marks at v) → Marked u a tlb w (Some n) at v
     inner n true g p q =
         record {
           guards = g;
@@ -115,15 +113,15 @@ accessed_marks u a tlb w e {at} {v} = outer (u && extendable a tlb w) refl
           address = let s : at ≡ ptea w = cc in s;
           value = let s : v ≡ set_d n = cc in s;
         }
-    inner n false g p q = absurd (refused_marks q)
+    inner n false g p q = absurd (refused_ok q)
 
-    by_entry : (e : Entry) → (u && extendable a tlb w) ≡ true → on_accessed w e ≡ Marks at v → Marked u a tlb w e at v
-    by_entry (Word n) g q = inner n (pte_p n) g refl q
-    by_entry Missing g q = absurd (refused_marks q)
+    by_entry : (e : Option ℕ) → (u && extendable a tlb w) ≡ true → on_accessed w e ≡ Ok (Marks at v) → Marked u a tlb w e at v
+    by_entry (Some n) g q = inner n (pte_p n) g refl q
+    by_entry None g q = absurd (refused_ok q)
 
-    outer : (t : Bool) → (u && extendable a tlb w) ≡ t → (if t then on_accessed w e else Refused 6) ≡ Marks at v → Marked u a tlb w e at v
+    outer : (t : Bool) → (u && extendable a tlb w) ≡ t → (if t then on_accessed w e else Err NoNextState) ≡ Ok (Marks at v) → Marked u a tlb w e at v
     outer true g q = by_entry e g q
-    outer false g q = absurd (refused_marks q)
+    outer false g q = absurd (refused_ok q)
 
 -- ---- what is added is sound
 

@@ -1,13 +1,12 @@
--- Walks, page table entries and translation requests (the report, section 5). A walk is its two words, an entry its word.
+-- Walks, page table entries and translation requests (the report, section 5). A walk is its two words, an entry its
+-- word.
 -- Assumes nothing.
-use Rattle.std.specs.Prelude.{if◌then◌else◌, Bool, ◌&&◌, ◌||◌, not, List, ℕ, ◌+◌, ◌-◌, ◌*◌, ◌/◌, ◌%◌, ◌^◌, length, eqb, leb}
+use Rattle.std.specs.Prelude.{if◌then◌else◌, Bool, ◌&&◌, ◌||◌, not, List, ℕ, ◌+◌, ◌-◌, ◌*◌, ◌/◌, ◌%◌, ◌^◌, length, eqb, leb, Option, Some, None}
 use Rattle.word.specs.Word.{is_set, plus}
 use Rattle.word.specs.Bytes.{bytes_at}
 use Rattle.records.specs.declared.Walk.{Walk}
 use Rattle.records.specs.Records.{level_of}
 use Rattle.tlb.specs.declared.Request.{Request}
-use Rattle.tlb.specs.declared.Entry.{Entry}
-use Rattle.tlb.specs.declared.Entry.TheVariants.{Word, Missing}
 use Rattle.tlb.specs.declared.Faulting.{Faulting}
 use Rattle.tlb.specs.declared.Faulting.TheVariants.{Faults, Passes, Undecided}
 
@@ -74,10 +73,10 @@ unfoldable pub ptea : Walk → ℕ
 ptea w = ptea_at (walk_ba w) (index w)
 
 -- definition 11: the entry at an address, if its four bytes are in memory; pte(m, w)
-unfoldable pub entry_at : List ℕ → ℕ → Entry
-entry_at m a = if leb (a + 4) (length m) then Word (bytes_at 4 m a) else Missing
+unfoldable pub entry_at : List ℕ → ℕ → Option ℕ
+entry_at m a = if leb (a + 4) (length m) then Some (bytes_at 4 m a) else None
 
-abbrev pub pte : List ℕ → Walk → Entry
+abbrev pub pte : List ℕ → Walk → Option ℕ
 pte m w = entry_at m (ptea w)
 
 -- ---- walks
@@ -121,12 +120,13 @@ store_r = 0b011
 unfoldable pub hit : Request → Walk → Bool
 hit t w = eqb (walk_va w) (t.va / 2 ^ 12) && (eqb (walk_asid w) t.asid && suffices t.r (walk_r w))
 
--- definition 19: fault(m, trq, w); only where an incomplete walk is a hit does its entry matter, and then it may not be there
-unfoldable pub entry_fault : ℕ → Entry → Faulting
-entry_fault r (Word e) = if wext_fault e r then Faults else Passes
-entry_fault r Missing = Undecided
+-- definition 19: fault(m, trq, w); only where an incomplete walk is a hit does its entry matter, and then it may not be
+-- there
+unfoldable pub entry_fault : ℕ → Option ℕ → Faulting
+entry_fault r (Some e) = if wext_fault e r then Faults else Passes
+entry_fault r None = Undecided
 
-unfoldable pub fault_by : Request → Walk → Entry → Faulting
+unfoldable pub fault_by : Request → Walk → Option ℕ → Faulting
 fault_by t w e = if not (complete w) && hit t w then entry_fault t.r e else Passes
 
 abbrev pub fault : List ℕ → Request → Walk → Faulting

@@ -9,32 +9,27 @@ ghost use Rattle.tlb.specs.Steps as y;
 
 use layout::{PTO, SPR};
 use records::Walk;
+use refusals::Refusal;
 use tables::block;
 
 // A translation request: address space, virtual address, rights.
-#[derive(Clone, Copy)]
+#[derive(Clone, Copy, Debug, PartialEq, Eq)]
 pub struct Request {
     pub asid: u32,
     pub va: u32,
     pub r: u32,
 }
 
-// The rights that a fetch, a load, and a store or cas ask for: bit 0 is write, bit 1 user, bit 2 execute.
-pub const FETCH: u32 = 6;
+// The rights that a fetch, a load, and a store or cas ask for: bit 0 is write, bit 1 user, bit 2 execute. Rights are a
+// number: three bits of a word of a walk or an entry (the layout), which the report too compares bit by bit.
+pub const FETCH: u32 = 0b110;
 
-pub const LOAD: u32 = 2;
+pub const LOAD: u32 = 0b010;
 
-pub const STORE: u32 = 3;
-
-// A page table entry, or that its bytes are not all in memory.
-#[derive(Clone, Copy)]
-pub enum Entry {
-    Word(u32),
-    Missing,
-}
+pub const STORE: u32 = 0b011;
 
 // Whether a request faults at a walk; undecided where the walk's entry is not in memory.
-#[derive(Clone, Copy)]
+#[derive(Clone, Copy, Debug, PartialEq, Eq)]
 pub enum Faulting {
     Faults,
     Passes,
@@ -89,9 +84,10 @@ fn index(w: Walk) -> u32
     ensures { result ≡ x.index w }
 {
     if level(w) == 2 {
-        return w.first / 0x40_0000;
+        w.first / 0x40_0000
+    } else {
+        w.first / 0x1000 % 0x400
     }
-    w.first / 0x1000 % 0x400
 }
 
 // The address of the entry that extends a walk.
@@ -102,15 +98,16 @@ pub fn ptea(w: Walk) -> u32
     word::add(word::shift_left(w.second, 12), 4 * i)
 }
 
-// The entry that extends a walk.
-pub fn pte(m: &[u8], w: Walk) -> Entry
+// The entry that extends a walk, if its bytes are all in memory.
+pub fn pte(m: &[u8], w: Walk) -> Option<u32>
     ensures { result ≡ x.pte m.now w }
 {
     let at = ptea(w) as usize;
     if at + 4 <= m.len() {
-        return Entry::Word(word::read_word(m, at));
+        Some(word::read_word(m, at))
+    } else {
+        None
     }
-    Entry::Missing
 }
 
 // The fields of an entry; its base page is entry / 0x1000.
@@ -152,7 +149,7 @@ pub fn winit(va: u32, origin: u32, asid: u32) -> Walk
     requires { (va < 2 ^ 20) × (asid < 2 ^ 6) }
     ensures { result ≡ x.winit va origin asid }
 {
-    walk_of(va, asid, 2, 7, origin)
+    walk_of(va, asid, 2, 0b111, origin)
 }
 
 pub fn complete(w: Walk) -> bool
@@ -167,9 +164,10 @@ pub fn wext(w: Walk, e: u32) -> Walk
     ensures { result ≡ x.wext w e }
 {
     if present(e) {
-        return walk_of(va(w), asid(w), level(w) - 1, entry_rights(e), e / 0x1000);
+        walk_of(va(w), asid(w), level(w) - 1, entry_rights(e), e / 0x1000)
+    } else {
+        w
     }
-    w
 }
 
 // Whether an extension by an entry faults for rights r.
@@ -186,17 +184,13 @@ pub fn hit(t: Request, w: Walk) -> bool
     (va(w) == t.va / 0x1000) & ((asid(w) == t.asid) & suffices(t.r, rights(w)))
 }
 
-fn entry_fault(r: u32, e: Entry) -> Faulting
+fn entry_fault(r: u32, e: Option<u32>) -> Faulting
     ensures { result ≡ x.entry_fault r e }
 {
     match e {
-        Entry::Word(v) => {
-            if wext_faults(v, r) {
-                return Faulting::Faults;
-            }
-            Faulting::Passes
-        }
-        Entry::Missing => Faulting::Undecided,
+        Some(v) if wext_faults(v, r) => Faulting::Faults,
+        Some(_) => Faulting::Passes,
+        None => Faulting::Undecided,
     }
 }
 
@@ -205,9 +199,10 @@ pub fn fault(m: &[u8], t: Request, w: Walk) -> Faulting
     ensures { result ≡ x.fault m.now t w }
 {
     if !complete(w) & hit(t, w) {
-        return entry_fault(t.r, pte(m, w));
+        entry_fault(t.r, pte(m, w))
+    } else {
+        Faulting::Passes
     }
-    Faulting::Passes
 }
 
 // A page of an address space as one number, for a flush.
@@ -218,10 +213,9 @@ pub fn page_key(va: u32, asid: u32) -> u32
     va * 64 + asid
 }
 
-// What a step of the TLB decides: a refusal, a walk that is added, or an entry that is written to memory at an address.
+// What a step of the TLB does: a walk is added, or an entry is written to memory at an address.
 #[derive(Clone, Copy)]
-pub enum Decision {
-    Refused(u32),
+pub enum Change {
     Adds(Walk),
     Marks(u32, u32),
 }
@@ -235,15 +229,15 @@ pub fn origin(b: &[u32]) -> u32
 }
 
 // What tlb-create decides for a virtual page.
-pub fn create(b: &[u32], va: u32) -> Decision
+pub fn create(b: &[u32], va: u32) -> Result<Change, Refusal>
     requires b_len { length b.now ≡ 256 }
     requires va_bound { va < 2 ^ 20 }
     ensures { result ≡ y.create_on b.now va }
 {
     if block::user(b) & block::runs(b) {
-        return Decision::Adds(winit(va, origin(b), block::asid(b)));
+        return Ok(Change::Adds(winit(va, origin(b), block::asid(b))));
     }
-    Decision::Refused(6)
+    Err(Refusal::NoNextState)
 }
 
 // Whether a walk is held, incomplete and of the current address space.
@@ -255,23 +249,23 @@ fn extendable(b: &[u32], w: Walk) -> bool
     records::holds_walk(b, w) & (!complete(w) & (asid(w) == block::asid(b)))
 }
 
-fn on_extend(w: Walk, e: Entry) -> Decision
+fn on_extend(w: Walk, e: Option<u32>) -> Result<Change, Refusal>
     requires { x.complete w ≡ false }
     ensures { result ≡ y.on_extend w e }
 {
     match e {
-        Entry::Word(v) => {
+        Some(v) => {
             if is_accessed(v) & !wext_faults(v, 0) {
-                return Decision::Adds(wext(w, v));
+                return Ok(Change::Adds(wext(w, v)));
             }
-            Decision::Refused(6)
+            Err(Refusal::NoNextState)
         }
-        Entry::Missing => Decision::Refused(7),
+        None => Err(Refusal::ByteNowhere),
     }
 }
 
 // What tlb-extend decides for a walk.
-pub fn extend(b: &[u32], m: &[u8], w: Walk) -> Decision
+pub fn extend(b: &[u32], m: &[u8], w: Walk) -> Result<Change, Refusal>
     requires b_len { length b.now ≡ 256 }
     requires b_value { linked b.now ≡ true }
     ensures { result ≡ y.extend_on b.now m.now w }
@@ -279,25 +273,25 @@ pub fn extend(b: &[u32], m: &[u8], w: Walk) -> Decision
     if block::runs(b) & extendable(b, w) {
         return on_extend(w, pte(m, w));
     }
-    Decision::Refused(6)
+    Err(Refusal::NoNextState)
 }
 
-fn on_accessed(w: Walk, e: Entry) -> Decision
+fn on_accessed(w: Walk, e: Option<u32>) -> Result<Change, Refusal>
     ensures { result ≡ y.on_accessed w e }
 {
     match e {
-        Entry::Word(v) => {
+        Some(v) => {
             if present(v) {
-                return Decision::Marks(ptea(w), set_accessed(v));
+                return Ok(Change::Marks(ptea(w), set_accessed(v)));
             }
-            Decision::Refused(6)
+            Err(Refusal::NoNextState)
         }
-        Entry::Missing => Decision::Refused(7),
+        None => Err(Refusal::ByteNowhere),
     }
 }
 
 // What tlb-accessed decides for a walk.
-pub fn accessed(b: &[u32], m: &[u8], w: Walk) -> Decision
+pub fn accessed(b: &[u32], m: &[u8], w: Walk) -> Result<Change, Refusal>
     requires b_len { length b.now ≡ 256 }
     requires b_value { linked b.now ≡ true }
     ensures { result ≡ y.accessed_on b.now m.now w }
@@ -305,5 +299,5 @@ pub fn accessed(b: &[u32], m: &[u8], w: Walk) -> Decision
     if block::user(b) & extendable(b, w) {
         return on_accessed(w, pte(m, w));
     }
-    Decision::Refused(6)
+    Err(Refusal::NoNextState)
 }

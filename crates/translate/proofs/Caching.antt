@@ -1,5 +1,6 @@
 -- Entries that are kept: where an address stands among them, and what is kept after one more was asked for.
 -- Assumes nothing.
+use Rattle.std.specs.Prelude.{Some}
 use mathlib.Core.Path.{◌≡◌, refl, sym, ap, subst, ◌∙◌}
 use mathlib.Core.Bool.{Bool, true, false, ◌||◌}
 use mathlib.Core.List.{List, [], ◌∷◌, ◌++◌}
@@ -7,16 +8,20 @@ use Prim.Native.Nat.{ℕ, zero, suc, ◌+◌, ◌≤◌, ◌<◌}
 use native.Mathlib.Omega.{arith}
 use lib.Dec.{eqb}
 use lib.ListN.{length, get_or, take, set, length-set}
-use lib.Seq.{take-suc, take-suc-set, get_or-set_same, get_or-set_other}
+use lib.Seq.{take-suc, take-suc-set, get_or-take, get_or-set_same, get_or-set_other}
 use borrow.Author.Tests.{eq-eqb, ne_eqb, eqb-true, eqb-false, le-leb, lt-leb}
 use Rattle.word.specs.Bytes.{bytes_at}
 use Rattle.word.proofs.Truth.{or_off, or_first, or_second, and_none}
 use Rattle.reach.specs.Lists.{has}
 use Rattle.reach.proofs.Lists.{has_append}
-use Rattle.tlb.specs.declared.Entry.TheVariants.{Word}
 use Rattle.tlb.specs.Walks.{entry_at}
 use Rattle.tlb.proofs.Entries.{entry_in}
-use Rattle.translate.specs.declared.cache.Place.{Place}
+use Rattle.std.specs.Prelude.{Option, None, Some}
+use Rattle.std.proofs.Common.{length-take-le}
+use Rattle.std.specs.List.{position, position_or_len}
+use Rattle.std.proofs.lemmas.Grind.{common_steps}
+use Rattle.std.proofs.lemmas.List.Quantifiers.{position-Some}
+use Rattle.std.proofs.lemmas.List.Sums.{fails_before_first}
 use Rattle.translate.specs.Translate.{is_there}
 use Rattle.translate.specs.inner.Cache.{cache, cache_all, slot_of, Slotted, Cached, Finds, Asked}
 
@@ -56,8 +61,20 @@ module _ (a : ℕ) (keys : List ℕ) where
   free_slot n slots h s e = none_among n h (λ i p q. let u = subst (λ (x : ℕ). 0 < get_or slots (slot_of x) 0) q (s i p) in omega arith)
 
 -- what a search found, by the case that it answered
-pub found : (a n : ℕ) (keys : List ℕ) (p q : Place) → p ≡ q → Finds a n keys p → Finds a n keys q
+pub found : (a n : ℕ) (keys : List ℕ) (p q : Option ℕ) → p ≡ q → Finds a n keys p → Finds a n keys q
 found a n keys p q e f = subst (Finds a n keys) e f
+
+-- the first place of an address
+pub found_at : (a n : ℕ) (keys : List ℕ) → n ≤ length keys → (p : Option ℕ) → p ≡ position (λ (x : ℕ). eqb x a) (take n keys) → Finds a n keys p
+found_at a n keys h (Some i) e =
+    let f = position-Some (λ (x : ℕ). eqb x a) (take n keys) i 0 (sym e) in
+    let lt : i < n = omega (arith, f.0, length-take-le n keys h) in
+    (lt, sym (get_or-take n keys i 0 lt) ∙ eqb-true _ a f.1)
+found_at a n keys h None e =
+    none_among a keys n h (λ i lt q.
+    let none : length (take n keys) ≤ position_or_len (λ (x : ℕ). eqb x a) (take n keys) = grind (arith, common_steps) in
+    let d = fails_before_first (λ (x : ℕ). eqb x a) (take n keys) i 0 (omega (arith, none, lt, length-take-le n keys h)) in
+    eqb-false _ a d (get_or-take n keys i 0 lt ∙ q))
 
 -- ---- one more is asked for
 
@@ -89,8 +106,8 @@ module _ (m : List ℕ) (a n : ℕ) (keys words slots : List ℕ) (K : Cached m 
     pub asked_again : Asked m (a ∷ []) n keys n keys words slots
     asked_again = same_kept (sym (cache_again m (take n keys) a (one_among a keys n i (omega (arith, K.few, K.keys_long)) p e)))
 
-    pub again_word : a + 4 ≤ length m → Word (get_or words i 0) ≡ entry_at m a
-    again_word h = ap Word (K.read i p ∙ ap (bytes_at 4 m) e) ∙ entry_in m a h
+    pub again_word : a + 4 ≤ length m → Some (get_or words i 0) ≡ entry_at m a
+    again_word h = ap Some (K.read i p ∙ ap (bytes_at 4 m) e) ∙ entry_in m a h
 
   module _ (h : n < 128) (there : a + 4 ≤ length m) (f : has a (take n keys) ≡ false) (e v : ℕ) (r : e ≡ bytes_at 4 m a) (pos : 0 < v) where
     keys_here : get_or (set keys n a) n 0 ≡ a

@@ -1,6 +1,6 @@
 -- The answers and the entries kept, address by address.
 -- Assumes nothing.
-use mathlib.Core.Path.{◌≡◌, refl, sym, ap, ap₂, ◌∙◌}
+use mathlib.Core.Path.{◌≡◌, refl, sym, ap, ap₂, subst, ◌∙◌}
 use mathlib.Core.List.{List, [], ◌∷◌, ◌++◌, flat_map}
 use Prim.Native.Nat.{ℕ, suc, ◌+◌, ◌*◌, ◌^◌, ◌≤◌, ◌<◌}
 use native.Mathlib.Omega.{arith}
@@ -66,6 +66,12 @@ module _ (b m l : List ℕ) where
   pub fill_start : {keys words slots r : List ℕ} → length r ≡ 3 * length l → Cached m 0 keys words slots → Filling keys 0 0 r keys words slots
   unfolding answers_for needs_for cache_all flat_map
   fill_start e K = record { long = e; answered = refl; asked = record { kept = K; addresses = refl }; few = omega arith }
+
+  -- with the memory and the count as a new cache has them
+  pub fill_begin : {o keys words slots r : List ℕ} {k : ℕ} → length r ≡ 3 * length l → o ≡ m → k ≡ 0 → Cached o k keys words slots → Filling keys 0 k r keys words slots
+  fill_begin {o} {keys} {words} {slots} {r} {k} e z n K =
+      subst (λ (j : ℕ). Filling keys 0 j r keys words slots) (sym n)
+      (fill_start e (subst (λ (j : ℕ). Cached m j keys words slots) n (subst (λ (x : List ℕ). Cached x k keys words slots) z K)))
 
   module _ {keys₀ : List ℕ} {i n : ℕ} {r keys words slots : List ℕ} (F : Filling keys₀ i n r keys words slots) (h : i < length l) where
     -- the walk, and the words of its answer

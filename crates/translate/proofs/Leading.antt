@@ -1,6 +1,6 @@
 -- Where a walk leads, entry by entry, and what it asks for.
 -- Assumes nothing.
-use Rattle.std.specs.Prelude.{if◌then◌else◌}
+use Rattle.std.specs.Prelude.{if◌then◌else◌, Option, Some, None}
 use mathlib.Core.Path.{◌≡◌, refl, sym, ap, subst, ◌∙◌}
 use mathlib.Core.Bool.{Bool, true, false}
 use mathlib.Core.List.{List, [], ◌∷◌}
@@ -8,8 +8,6 @@ use Prim.Native.Nat.{ℕ, zero, suc, ◌+◌, ◌≤◌}
 use native.Mathlib.Omega.{arith}
 use lib.ListN.{length, take}
 use Rattle.records.specs.declared.Walk.{Walk}
-use Rattle.tlb.specs.declared.Entry.{Entry}
-use Rattle.tlb.specs.declared.Entry.TheVariants.{Word, Missing}
 use Rattle.tlb.specs.Walks.{walk_level, walk_r, walk_ba, ptea, entry_at, pte, pte_p, wext}
 use Rattle.tlb.proofs.Fields.{wext_fields}
 use Rattle.translate.specs.declared.Translation.TheVariants.{Mapped, Absent, Beyond}
@@ -20,16 +18,16 @@ use Rattle.translate.proofs.Different.{grows}
 -- ---- one level
 
 module _ (m : List ℕ) (w : Walk) (n : ℕ) where
-  module _ (h : Missing ≡ pte m w) where
+  module _ (h : None ≡ pte m w) where
     leads_beyond : Beyond ≡ leads (suc n) m w
     unfolding leads leads_by
     leads_beyond = ap (leads_by (leads n m) w) h
 
     needs_beyond : ptea w ∷ [] ≡ needs (suc n) m w
     unfolding needs needs_by
-    needs_beyond = ap (λ (e : Entry). ptea w ∷ needs_by (needs n m) w e) h
+    needs_beyond = ap (λ (e : Option ℕ). ptea w ∷ needs_by (needs n m) w e) h
 
-  module _ (e : ℕ) (h : Word e ≡ pte m w) where
+  module _ (e : ℕ) (h : Some e ≡ pte m w) where
     leads_absent : pte_p e ≡ false → Absent (walk_level w) ≡ leads (suc n) m w
     unfolding leads leads_by
     leads_absent p = rw (← h, p)
@@ -52,21 +50,22 @@ unfolding needs needs_by
 needs_few zero m w = omega arith
 needs_few (suc n) m w = go (pte m w) (needs_few n m)
   where
-    go : (e : Entry) → ((v : Walk) → length (needs n m v) ≤ n) → suc (length (needs_by (needs n m) w e)) ≤ suc n
-    go (Word e) f = by (pte_p e) (f (wext w e))
+    go : (e : Option ℕ) → ((v : Walk) → length (needs n m v) ≤ n) → suc (length (needs_by (needs n m) w e)) ≤ suc n
+    go (Some e) f = by (pte_p e) (f (wext w e))
       where
         by : (b : Bool) → length (needs n m (wext w e)) ≤ n → suc (length (if b then needs n m (wext w e) else [])) ≤ suc n
         by true h = omega (arith, h)
         by false h = omega arith
-    go Missing f = omega arith
+    go None f = omega arith
 
--- by the address that the code has at hand
-module _ (m : List ℕ) (w : Walk) (a : ℕ) (q : a ≡ ptea w) where
-  pub at_entry : {r e : Entry} → r ≡ entry_at m a → r ≡ e → e ≡ pte m w
-  at_entry f g = sym g ∙ f ∙ ap (entry_at m) q
+-- by the memory and the address that the code has at hand
+module _ (m o : List ℕ) (z : o ≡ m) (w : Walk) (a : ℕ) (q : a ≡ ptea w) where
+  pub at_entry : {r e : Option ℕ} → r ≡ entry_at o a → r ≡ e → e ≡ pte m w
+  at_entry f g = sym g ∙ f ∙ ap (λ (x : List ℕ). entry_at x a) z ∙ ap (entry_at m) q
 
-  pub at_asked : {c : ℕ} {keys : List ℕ} {c' : ℕ} {keys' words' slots' : List ℕ} → Asked m (a ∷ []) c keys c' keys' words' slots' → Asked m (ptea w ∷ []) c keys c' keys' words' slots'
-  at_asked {c} {keys} {c'} {keys'} {words'} {slots'} A = subst (λ (x : ℕ). Asked m (x ∷ []) c keys c' keys' words' slots') q A
+  pub at_asked : {c : ℕ} {keys : List ℕ} {c' : ℕ} {keys' words' slots' : List ℕ} → Asked o (a ∷ []) c keys c' keys' words' slots' → Asked m (ptea w ∷ []) c keys c' keys' words' slots'
+  at_asked {c} {keys} {c'} {keys'} {words'} {slots'} A =
+      subst (λ (x : ℕ). Asked m (x ∷ []) c keys c' keys' words' slots') q (subst (λ (x : List ℕ). Asked x (a ∷ []) c keys c' keys' words' slots') z A)
 
 -- ---- the levels of a walk: what is left of it gives the whole
 
@@ -98,23 +97,23 @@ module _ {m : List ℕ} {start : Walk} {n : ℕ} {keys : List ℕ} where
       asked_here : cache_all m (take c keys₁) (needs (suc l) m w) ≡ cache_all m (take n keys) (needs 2 m start)
       asked_here = ap (λ (j : ℕ). cache_all m (take c keys₁) (needs j m w)) (sym s) ∙ L.addresses
 
-      pub lead_beyond : Missing ≡ pte m w → Beyond ≡ leads 2 m start
+      pub lead_beyond : None ≡ pte m w → Beyond ≡ leads 2 m start
       lead_beyond h = leads_beyond m w l h ∙ whole_here
 
-      pub lead_absent : (e : ℕ) → Word e ≡ pte m w → pte_p e ≡ false → Absent left ≡ leads 2 m start
+      pub lead_absent : (e : ℕ) → Some e ≡ pte m w → pte_p e ≡ false → Absent left ≡ leads 2 m start
       lead_absent e h p = ap Absent (sym L.level) ∙ leads_absent m w l e h p ∙ whole_here
 
       module _ {c' : ℕ} {keys₂ words₂ slots₂ : List ℕ} (A : Asked m (ptea w ∷ []) c keys₁ c' keys₂ words₂ slots₂) where
         stops : ptea w ∷ [] ≡ needs (suc l) m w → Asked m (needs 2 m start) n keys c' keys₂ words₂ slots₂
         stops h = record { kept = A.kept; addresses = A.addresses ∙ ap (cache_all m (take c keys₁)) h ∙ asked_here }
 
-        pub asked_to_beyond : Missing ≡ pte m w → Asked m (needs 2 m start) n keys c' keys₂ words₂ slots₂
+        pub asked_to_beyond : None ≡ pte m w → Asked m (needs 2 m start) n keys c' keys₂ words₂ slots₂
         asked_to_beyond h = stops (needs_beyond m w l h)
 
-        pub asked_to_absent : (e : ℕ) → Word e ≡ pte m w → pte_p e ≡ false → Asked m (needs 2 m start) n keys c' keys₂ words₂ slots₂
+        pub asked_to_absent : (e : ℕ) → Some e ≡ pte m w → pte_p e ≡ false → Asked m (needs 2 m start) n keys c' keys₂ words₂ slots₂
         asked_to_absent e h p = stops (needs_absent m w l e h p)
 
-        pub lead_next : (e : ℕ) → Word e ≡ pte m w → pte_p e ≡ true → Leading m start n keys (wext w e) l c' keys₂ words₂ slots₂
+        pub lead_next : (e : ℕ) → Some e ≡ pte m w → pte_p e ≡ true → Leading m start n keys (wext w e) l c' keys₂ words₂ slots₂
         unfolding cache_all
         lead_next e h p = record {
           kept = A.kept;

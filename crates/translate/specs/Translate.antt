@@ -1,43 +1,43 @@
--- The operation Translate (02, the first request): where up to 64 virtual addresses of a core lead, each by a walk of its own through the page
--- tables in memory, and how many different table entries that takes.
+-- The operation Translate (02, the first request): where up to 64 virtual addresses of a core lead, each by a walk of
+-- its own through the page tables in memory, and how many different table entries that takes.
 -- Assumes nothing.
-use Rattle.std.specs.Prelude.{if◌then◌else◌, Bool, not, ℕ, zero, suc, ◌+◌, ◌*◌, eqb, ltb, leb, length}
+use Rattle.std.specs.Prelude.{if◌then◌else◌, Bool, not, ℕ, zero, suc, ◌+◌, ◌*◌, eqb, ltb, leb, length, Option, Some, None, Result, Ok, Err}
 use mathlib.Core.List.{List, [], ◌∷◌, flat_map}
 use Rattle.layout.specs.Blocks.{block}
 use Rattle.records.specs.declared.Walk.{Walk}
 use Rattle.tables.specs.Views.{cores_of, asid_of}
 use Rattle.tables.specs.Sound.{sound}
-use Rattle.tlb.specs.declared.Entry.{Entry}
-use Rattle.tlb.specs.declared.Entry.TheVariants.{Word, Missing}
 use Rattle.tlb.specs.Walks.{walk_level, walk_r, walk_ba, base_address, ptea, pte, pte_p, winit, wext}
 use Rattle.tlb.specs.Steps.{origin_of}
 use Rattle.reach.specs.Lists.{has, select}
 use Rattle.translate.specs.declared.Translation.{Translation}
 use Rattle.translate.specs.declared.Translation.TheVariants.{Mapped, Absent, Beyond}
-use Rattle.translate.specs.declared.Translated.{Translated}
-use Rattle.translate.specs.declared.Translated.TheVariants.{Done, Refused}
+use Rattle.refusals.specs.declared.Refusal.{Refusal}
+use Rattle.refusals.specs.declared.Refusal.TheVariants.{Unsound, Core, Addresses, AnswersLength}
+use Rattle.refusals.specs.Numbers.{number}
 
 -- ---- one address
 
--- the walk that its translation begins with: at the page in pto of the core with block b, for the page of the address (definitions 8 and 12)
+-- the walk that its translation begins with: at the page in pto of the core with block b, for the page of the address
+-- (definitions 8 and 12)
 unfoldable pub walk_for : List ℕ → ℕ → Walk
 walk_for b a = winit (base_address a) (origin_of b) (asid_of b)
 
 -- an entry in memory that is present extends a walk (definitions 11 and 14), and f says of that walk where it leads
-unfoldable pub leads_by : (Walk → Translation) → Walk → Entry → Translation
-leads_by f w (Word e) = if pte_p e then f (wext w e) else Absent (walk_level w)
-leads_by f w Missing = Beyond
+unfoldable pub leads_by : (Walk → Translation) → Walk → Option ℕ → Translation
+leads_by f w (Some e) = if pte_p e then f (wext w e) else Absent (walk_level w)
+leads_by f w None = Beyond
 
--- where a walk leads that has n levels to go: to a page, with the rights of the last entry, where it is complete (definition 15), or to an entry
--- that is absent or beyond memory
+-- where a walk leads that has n levels to go: to a page, with the rights of the last entry, where it is complete
+-- (definition 15), or to an entry that is absent or beyond memory
 unfoldable pub leads : ℕ → List ℕ → Walk → Translation
 leads zero m w = Mapped (walk_ba w) (walk_r w)
 leads (suc n) m w = leads_by (leads n m) w (pte m w)
 
 -- the addresses of the entries that it needs (definition 10), one beyond memory too
-unfoldable pub needs_by : (Walk → List ℕ) → Walk → Entry → List ℕ
-needs_by f w (Word e) = if pte_p e then f (wext w e) else []
-needs_by f w Missing = []
+unfoldable pub needs_by : (Walk → List ℕ) → Walk → Option ℕ → List ℕ
+needs_by f w (Some e) = if pte_p e then f (wext w e) else []
+needs_by f w None = []
 
 unfoldable pub needs : ℕ → List ℕ → Walk → List ℕ
 needs zero m w = []
@@ -71,25 +71,26 @@ needs_for b m l = flat_map (λ (a : ℕ). needs 2 m (walk_for b a)) l
 unfoldable pub reads_for : List ℕ → List ℕ → List ℕ → ℕ
 reads_for b m l = different (select (is_there m) (needs_for b m l))
 
--- ---- the operation for core k and the addresses l: it fills the lent words r, and answers the number of entries read; a refusal writes nothing
+-- ---- the operation for core k and the addresses l: it fills the lent words r, and answers the number of entries read;
+-- a refusal writes nothing
 
 pub record Answers : Type 0 where
-  pub answer : Translated
+  pub answer : Result ℕ Refusal
   pub words : List ℕ
 
 unfoldable pub translate_on : ℕ → List ℕ → List ℕ → List ℕ → List ℕ → Answers
 translate_on k l t m r =
-    if not (sound t (length m)) then record { answer = Refused 4; words = r }
-    else if not (ltb k (cores_of t)) then record { answer = Refused 14; words = r }
-    else if not (leb (length l) 64) then record { answer = Refused 15; words = r }
-    else if not (eqb (length r) (3 * length l)) then record { answer = Refused 16; words = r }
-    else record { answer = Done (reads_for (block t k) m l); words = answers_for (block t k) m l }
+    if not (sound t (length m)) then record { answer = Err Unsound; words = r }
+    else if not (ltb k (cores_of t)) then record { answer = Err Core; words = r }
+    else if not (leb (length l) 64) then record { answer = Err Addresses; words = r }
+    else if not (eqb (length r) (3 * length l)) then record { answer = Err AnswersLength; words = r }
+    else record { answer = Ok (reads_for (block t k) m l); words = answers_for (block t k) m l }
 
 -- the number for each answer: 0, or 100 and the number of a refusal; and the number of entries read, 0 for a refusal
-abbrev pub translated_number : Translated → ℕ
-translated_number (Done n) = 0
-translated_number (Refused n) = 100 + n
+abbrev pub translated_number : Result ℕ Refusal → ℕ
+translated_number (Ok n) = 0
+translated_number (Err r) = 100 + number r
 
-abbrev pub reads_of : Translated → ℕ
-reads_of (Done n) = n
-reads_of (Refused n) = 0
+abbrev pub reads_of : Result ℕ Refusal → ℕ
+reads_of (Ok n) = n
+reads_of (Err r) = 0

@@ -1,5 +1,6 @@
--- No instruction asks a unit's table for control bits that no line has: tested on every row of tables 1 to 4. The control bits are bits of the codes
--- that a row prints, but for rt[0] of a branch whose row leaves rt free, which is tested at both values.
+-- No instruction asks a unit's table for control bits that no line has: tested on every row of tables 1 to 4. The
+-- control bits are bits of the codes that a row prints, but for rt[0] of a branch whose row leaves rt free, which is
+-- tested at both values.
 -- Assumes nothing.
 use mathlib.Core.Bool.{Bool, false, not, ◌&&◌, ◌||◌}
 use mathlib.Core.List.{List, [], ◌∷◌}

@@ -1,5 +1,5 @@
--- The ALU (6.1.2): the results of its table as printed, and the control bits of definition 28. Its overflow column stands where δ does (report), since the machine
--- goes by Overflow.
+-- The ALU (6.1.2): the results of its table as printed, and the control bits of definition 28. Its overflow column
+-- stands where δ does (report), since the machine goes by Overflow.
 -- Assumes nothing.
 use Rattle.std.specs.Prelude.{if◌then◌else◌, Bool, not, ◌&&◌, ◌||◌, List, [], ◌∷◌, ℕ, ◌+◌, ◌-◌, ◌*◌, ◌%◌, ◌^◌, ltb}
 use Rattle.std.specs.Int.Signed.{lt_z}

@@ -1,5 +1,5 @@
--- Overflow in the trade's way, which the machine takes in place of the overflow column of 6.1.2: add, addi and sub overflow; addu, addiu and subu never do,
--- nor does any other instruction.
+-- Overflow in the trade's way, which the machine takes in place of the overflow column of 6.1.2: add, addi and sub
+-- overflow; addu, addiu and subu never do, nor does any other instruction.
 -- Assumes nothing.
 use Rattle.std.specs.Prelude.{if◌then◌else◌, Bool, false, not, [], ◌∷◌, ℕ, ◌+ℤ◌, ◌-ℤ◌}
 use Rattle.word.specs.Word.{signed, within}

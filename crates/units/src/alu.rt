@@ -3,7 +3,7 @@ ghost use Rattle.std.specs.Prelude.{◌≡◌, ◌<◌, ◌^◌};
 ghost use Rattle.units.specs.Alu.{alures, alucon, con_low, con_high};
 ghost use Rattle.units.specs.Overflow as s;
 
-use decode::{Instruction, classes};
+use decode::{Alu, Immediate, Instruction};
 
 fn control_low(rtype: bool, w: u32) -> u32
     ensures { (result ≡ con_low rtype w) × (result < 8) }
@@ -55,11 +55,10 @@ pub fn result(a: u32, b: u32, con: u32, itype: bool) -> u32
 pub fn overflow(i: Instruction, a: u32, b: u32) -> bool
     ensures { result ≡ s.overflow i a b }
 {
-    let n = classes::number(i);
-    if (n == classes::ADD) | (n == classes::ADDI) {
+    if (i == Instruction::Alu(Alu::Add)) | (i == Instruction::Immediate(Immediate::Addi)) {
         return word::sum_overflows(a, b);
     }
-    if n == classes::SUB {
+    if i == Instruction::Alu(Alu::Sub) {
         return word::difference_overflows(a, b);
     }
     false

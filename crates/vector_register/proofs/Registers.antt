@@ -1,5 +1,6 @@
 -- One vector put into a register, seen vector by vector.
 -- Assumes nothing.
+use Rattle.std.specs.Prelude.{Option, Some, None}
 use mathlib.Core.Path.{◌≡◌, refl, sym, ap, ◌∙◌}
 use mathlib.Core.Bool.{Bool, true, false}
 use mathlib.Core.List.{List}
@@ -10,8 +11,6 @@ use lib.Seq.{get_or-set_same, get_or-set_other}
 use lib.Dec.{eqb}
 use borrow.Author.Tests.{eqb-true, eqb-false}
 use Rattle.word.specs.Word.{bit, with_bit}
-use Rattle.vector_register.specs.declared.Found.{Found}
-use Rattle.vector_register.specs.declared.Found.TheVariants.{Vector, None}
 use Rattle.vector_register.specs.Vectors.{bit_at, with_vector, marked}
 use Rattle.word.proofs.Bits.{bit_same, bit_other}
 
@@ -42,7 +41,7 @@ module _ (b : List ℕ) (p v x : ℕ) (long : p + 8 ≤ length b) (hv : v < 256)
 
 -- ---- the vector found, if any
 
-pub marked_long : (b : List ℕ) (p : ℕ) (f : Found) (x : ℕ) → length (marked b p f x) ≡ length b
+pub marked_long : (b : List ℕ) (p : ℕ) (f : Option ℕ) (x : ℕ) → length (marked b p f x) ≡ length b
 unfolding with_vector
 marked_long b p None x = refl
-marked_long b p (Vector v) x = length-set b (p + v / 32) (with_bit (get_or b (p + v / 32) 0) (v % 32) x)
+marked_long b p (Some v) x = length-set b (p + v / 32) (with_bit (get_or b (p + v / 32) 0) (v % 32) x)

@@ -1,5 +1,6 @@
 -- Whether f is 1 at a number up to j, and the least such number.
 -- Assumes nothing.
+use Rattle.std.specs.Prelude.{Some, None}
 use mathlib.Core.Path.{◌≡◌, sym, ap, ◌∙◌}
 use mathlib.Core.Bool.{true, false}
 use mathlib.Core.Logic.{⊎_elim}
@@ -9,7 +10,6 @@ use lib.Dec.{eqb}
 use borrow.Author.Tests.{eq-eqb, ne_eqb}
 use Rattle.word.proofs.Laws.{side}
 use Rattle.word.proofs.Truth.{or_true, clash}
-use Rattle.vector_register.specs.declared.Found.TheVariants.{Vector, None}
 use Rattle.vector_register.specs.Vectors.{least, some_up_to}
 use Rattle.vector_register.proofs.Least.{Unset, found_none, set_below, set_there}
 
@@ -31,7 +31,7 @@ some_yes f (suc j) k l e =
 
 -- of the 256 vectors, one is set or none
 module _ (f : ℕ → ℕ) where
-  pub one_set : (v : ℕ) → least f 256 0 ≡ Vector v → some_up_to f 255 ≡ true
+  pub one_set : (v : ℕ) → least f 256 0 ≡ Some v → some_up_to f 255 ≡ true
   one_set v e = some_yes f 255 v (omega (arith, set_below f 256 v e)) (set_there f 256 v e)
 
   pub none_set : some_up_to f 255 ≡ false → least f 256 0 ≡ None

@@ -2,10 +2,9 @@
 // says of both on standard output. A read of standard input or a write that fails ends it with an error.
 #![tactic(auto)]
 
-mod reading;
 mod stack;
 
-ghost use Rattle.std.specs.Prelude.{◌+◌, ◌≤◌, ◌<◌, length, IfOk};
+ghost use Rattle.std.specs.Prelude.{◌+◌, ◌≤◌, ◌<◌, ◌^◌, length, IfOk};
 ghost use Rattle.std.specs.Io.{ReadsAtMost};
 ghost use Rattle.io.specs.Counts.{IsPrefixLen};
 
@@ -66,10 +65,8 @@ fn read_arguments(env: &impl Env, a: &mut [u8]) -> usize
 {
     let n = count_arguments(env);
     let mut at: usize = 0;
-    let mut i: usize = 1;
-    while i < n {
+    for i in 1..n {
         at = read_argument(env, a, at, i);
-        i += 1;
     }
     at
 }
@@ -82,7 +79,8 @@ fn piece_end(done: usize, n: usize) -> usize
     if n - done < 65536 { n } else { done + 65536 }
 }
 
-// Reads the input, as much as there is room for, and answers how many bytes came.
+// Reads the input, as much as there is room for, and answers how many bytes came. Where the input ends is known only
+// once a piece is read.
 fn read_input(reader: &mut impl Read, input: &mut [u8]) -> io::Result<usize>
     ensures { ReadsAtMost result input.new }
 {
@@ -102,12 +100,12 @@ fn read_input(reader: &mut impl Read, input: &mut [u8]) -> io::Result<usize>
 // than the room was made for.
 fn judge_in(
     reader: &mut impl Read,
-    out: &mut [u8],
+    out: &mut [u8; TEXT],
     a: &[u8],
     input: &mut [u8],
     pages: u32,
 ) -> io::Result<usize>
-    requires { (12288 ≤ length out.old) × (8 ≤ length input.old) }
+    requires { 8 ≤ length input.old }
     ensures { IfOk result (λ n. n ≤ 12288) }
 {
     let n = read_input(reader, input)?;
@@ -125,50 +123,33 @@ fn judge_in(
     Ok(verdict_text::judge(a, &input[..n], out))
 }
 
-// The same in a room whose type says how many bytes it has.
+// The same in a room of N bytes. It calls itself on a text that is longer than any can be, so never. But the compiler
+// takes a function that may call itself into no other: so the room is part of no other frame, and it is taken after the
+// stack's limit was asked.
 fn judge_room<const N: usize>(
     reader: &mut impl Read,
-    out: &mut [u8],
+    out: &mut [u8; TEXT],
     a: &[u8],
-    room: &mut [u8; N],
     pages: u32,
 ) -> io::Result<usize>
-    requires { (12288 ≤ length out.old) × (8 ≤ N) }
+    requires { (8 ≤ N) × (N < 2 ^ 32) }
     ensures { IfOk result (λ n. n ≤ 12288) }
 {
-    judge_in(reader, out, a, room, pages)
-}
-
-// These two call themselves on a text that is longer than any can be, so never. But the compiler takes a function that
-// may call itself into no other: so the room is part of no other frame, and it is taken after the stack's limit was
-// asked.
-fn judge_small(reader: &mut impl Read, out: &mut [u8], a: &[u8]) -> io::Result<usize>
-    requires { 12288 ≤ length out.old }
-    ensures { IfOk result (λ n. n ≤ 12288) }
-{
-    let mut input = [0u8; SMALL_ROOM];
-    let r = judge_room(reader, out, a, &mut input, SMALL_PAGES)?;
+    let mut input = [0u8; N];
+    let r = judge_in(reader, out, a, &mut input, pages)?;
     if TEXT < r {
-        return judge_small(reader, out, a);
-    }
-    Ok(r)
-}
-
-fn judge_large(reader: &mut impl Read, out: &mut [u8], a: &[u8]) -> io::Result<usize>
-    requires { 12288 ≤ length out.old }
-    ensures { IfOk result (λ n. n ≤ 12288) }
-{
-    let mut input = [0u8; LARGE_ROOM];
-    let r = judge_room(reader, out, a, &mut input, u32::MAX)?;
-    if TEXT < r {
-        return judge_large(reader, out, a);
+        return judge_room::<N>(reader, out, a, pages);
     }
     Ok(r)
 }
 
 // Judges in the room that the stack allows; where the arguments are wrong, no input is waited for.
-fn judge(files: &impl Files, reader: &mut impl Read, out: &mut [u8], a: &[u8]) -> io::Result<usize>
-    requires { 12288 ≤ length out.old }
+fn judge(
+    files: &impl Files,
+    reader: &mut impl Read,
+    out: &mut [u8; TEXT],
+    a: &[u8],
+) -> io::Result<usize>
     ensures { ReadsAtMost result out.new }
 {
     if !verdict_text::asks_input(a) {
@@ -183,9 +164,9 @@ fn judge(files: &impl Files, reader: &mut impl Read, out: &mut [u8], a: &[u8]) -
         ));
     }
     if limit < LARGE_STACK {
-        return judge_small(reader, out, a);
+        return judge_room::<SMALL_ROOM>(reader, out, a, SMALL_PAGES);
     }
-    judge_large(reader, out, a)
+    judge_room::<LARGE_ROOM>(reader, out, a, u32::MAX)
 }
 
 fn main(rt: HostRuntime) -> io::Result<()> {

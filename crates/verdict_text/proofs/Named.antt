@@ -16,8 +16,9 @@ use borrow.Author.Tests.{eq-eqb, ne_eqb, le-leb, lt-leb}
 use Rattle.word.specs.Word.{with_bit}
 use Rattle.word.proofs.Laws.{side}
 use Rattle.records.proofs.Counts.{either}
-use Rattle.verdict_text.specs.Arguments.{before, arguments_in, named_core, NoCore, asked_from}
-use Rattle.verdict_text.specs.inner.First.{first, after_first}
+use Rattle.verdict_text.specs.Arguments.{before, arguments_in, named_core, Cores, NoCore, asked_from}
+use Rattle.verdict_text.specs.inner.First.{first, after_first, core_of}
+use Rattle.std.specs.Prelude.{Option, Some, None}
 
 -- ---- the first argument and the others
 
@@ -132,6 +133,28 @@ module _ (a : List ℕ) (at : ℕ) (h : at < length a) where
         ap (asked_from g) from_here
         ∙ rw (ne_eqb (named_core (first (drop at a))) 4 (λ u. absurd (omega arith)))
         (ap (λ (n : ℕ). asked_from (with_bit g n 1) (arguments_in (after_first (drop at a)))) (sym e) ∙ ap (λ (x : List ℕ). asked_from (with_bit g k 1) (arguments_in x)) o)
+
+-- past the last argument no other is asked
+pub all_there : (a : List ℕ) (g at : ℕ) → length a ≤ at → asked_from g (arguments_in (drop at a)) ≡ Cores g
+unfolding asked_from arguments_in
+all_there a g at h = ap (λ (x : List ℕ). asked_from g (arguments_in x)) (drop_of_length-le a h)
+
+-- a core as an option
+pub core_is : {k n : ℕ} → k ≡ n → k < 4 → Some k ≡ core_of n
+core_is {k} {n} e h = ap Some e ∙ sym (rw (ne_eqb n 4 (λ u. absurd (omega (arith, e)))) refl)
+
+abbrev number_of : Option ℕ → ℕ
+number_of None = 4
+number_of (Some k) = k
+
+number_is : (n : ℕ) → number_of (core_of n) ≡ n
+number_is n = either (ℕ_discrete n 4) (λ e. rw (eq-eqb n 4 e) (sym e)) (λ e. rw (ne_eqb n 4 e) refl)
+
+pub is_core : (k n : ℕ) → Some k ≡ core_of n → k ≡ n
+is_core k n e = ap number_of e ∙ number_is n
+
+pub is_none : (n : ℕ) → None ≡ core_of n → n ≡ 4
+is_none n e = sym (ap number_of e ∙ number_is n)
 
 -- ---- how long it is
 

@@ -8,23 +8,20 @@ use mathlib.Core.List.{List, []}
 use Prim.Native.Nat.{ℕ, ◌+◌, ◌*◌, ◌-◌, ◌≤◌, ◌<◌, min}
 use native.Mathlib.Omega.{arith}
 use lib.Dec.{T, eqb, ltb, leb, leb→le}
-use lib.ListN.{length, take, drop, replicate, length-drop, length-replicate, drop_of_length-le}
+use lib.ListN.{length, take, drop, replicate, length-replicate}
 use lib.Seq.{take_all, take-take, length-take-le}
 use borrow.Author.Tests.{lt-ltb, le-ltb, eq-eqb, ne_eqb, eqb-true, not-false}
 use Rattle.word.specs.Bytes.{words_in}
 use Rattle.word.proofs.Laws.{side}
 use Rattle.word.proofs.Tests.{and_right}
-use Rattle.word.proofs.Bytes.{bytes_take, length_words}
-use Rattle.text.specs.Text.{Put}
-use Rattle.text.proofs.Texts.{reworded}
+use Rattle.word.proofs.Bytes.{bytes_take}
 use Rattle.layout.specs.Layout.{table_words, most_cores, most_pages}
 use Rattle.tables.specs.Sound.{up_to}
 use Rattle.tables.proofs.Answers.{up_to_lem}
 use Rattle.judgement.specs.Report.{report_text}
-use Rattle.verdict_text.specs.Arguments.{arguments_in, named_core, Question, Cores, NoCore, asked_from}
+use Rattle.verdict_text.specs.Arguments.{arguments_in, Question, Cores, NoCore, asked_from}
 use Rattle.verdict_text.specs.Wrong as wrong
 use Rattle.verdict_text.specs.inner.First.{first}
-use Rattle.verdict_text.proofs.Named.{wrong_argument}
 use Rattle.verdict_text.specs.Judged.{input_cores, input_pages, machine_bytes, of_machine, of_input, no_core, answered, judged, names_group, asks_input}
 
 -- ---- a number from 1 on
@@ -177,18 +174,6 @@ module _ (input : List ℕ) (n : ℕ) (h : machine_bytes most_cores (min (input_
   unfolding judged
   enough a = ap (λ (x : List ℕ). if ltb 4096 (length a) then wrong.long_arguments_text else x) (same_answer (asked_from 0 (arguments_in a)))
 
--- ---- the report on what was read
-
-pub report_read :
-    (g n : ℕ) (b t : List ℕ) → t ≡ words_in n b → {e : List ℕ} {r : ℕ} {c : List ℕ} → Put e 0 (report_text g t (take (length b - 4 * length t) (drop (4 * length t) b))) r c
-    → Put e 0 (report_text g (words_in n b) (drop (4 * n) b)) r c
-report_read g n b t p =
-    let k : length t ≡ n = ap length p ∙ length_words n b in
-    let m : List ℕ = take (length b - 4 * length t) (drop (4 * length t) b) in
-    let q : m ≡ drop (4 * n) b
-    = ap (λ (j : ℕ). take (length b - 4 * j) (drop (4 * j) b)) k ∙ take_all (length b - 4 * n) (drop (4 * n) b) (omega (arith, length-drop (4 * n) b)) in
-    reworded (ap (λ (x : List ℕ). report_text g x m) p ∙ ap (λ (x : List ℕ). report_text g (words_in n b) x) q)
-
 -- an array of zeros has room for the tables
 pub tables_room : (n x : ℕ) → n ≤ 1056 → length (take n (replicate 1056 x)) ≡ n
 tables_room n x h = length-take-le n (replicate 1056 x) (omega (arith, length-replicate 1056 x))
@@ -211,33 +196,26 @@ module _ (s f : List ℕ) (at n : ℕ) (h : n ≤ length s) (e : take n s ≡ f)
       let t : take 16 f ≡ take (at + n - at) s = take_all 16 f (omega (arith, length_is)) ∙ sym e ∙ ap (λ (j : ℕ). take j s) (sym p) in
       rw (t, le-ltb 16 (length f) (omega (arith, length_is))) refl
 
--- ---- the arguments as they were gone through: the cores of g up to a place
+-- ---- the arguments as they were gone through
 
-module _ (a : List ℕ) (h : length a ≤ 4096) (g at : ℕ) (A : asked_from 0 (arguments_in a) ≡ asked_from g (arguments_in (drop at a))) where
-  module _ (l : at < length a) (e : named_core (first (drop at a)) ≡ 4) where
-    wrong_there : asked_from 0 (arguments_in a) ≡ NoCore (first (drop at a))
-    wrong_there = A ∙ wrong_argument a at l g e
-
-    pub said_wrong : (input : List ℕ) → judged a input ≡ no_core (first (drop at a))
+module _ (a : List ℕ) (h : length a ≤ 4096) where
+  module _ (at : ℕ) (e : asked_from 0 (arguments_in a) ≡ NoCore (first (drop at a))) where
+    pub said_wrong : (input : List ℕ) → no_core (first (drop at a)) ≡ judged a input
     unfolding answered
-    said_wrong input = said_by_arguments a h (NoCore (first (drop at a))) wrong_there input
+    said_wrong input = sym (said_by_arguments a h (NoCore (first (drop at a))) e input)
 
     pub asks_wrong : false ≡ asks_input a
-    asks_wrong = asks_by_arguments a h (NoCore (first (drop at a))) wrong_there
+    asks_wrong = asks_by_arguments a h (NoCore (first (drop at a))) e
 
-  module _ (l : length a ≤ at) where
-    all_there_lem : asked_from 0 (arguments_in a) ≡ Cores g
-    unfolding asked_from arguments_in
-    all_there_lem = A ∙ ap (λ (x : List ℕ). asked_from g (arguments_in x)) (drop_of_length-le a l)
+  module _ {g : ℕ} (e : asked_from 0 (arguments_in a) ≡ Cores g) where
+    pub said_none : g ≡ 0 → (input : List ℕ) → wrong.no_group_text ≡ judged a input
+    said_none z input = sym (said_by_arguments a h (Cores g) e input ∙ said_no_group g input z)
 
-    pub said_none : g ≡ 0 → (input : List ℕ) → judged a input ≡ wrong.no_group_text
-    said_none e input = said_by_arguments a h (Cores g) all_there_lem input ∙ said_no_group g input e
-
-    pub said_asked : (g ≡ 0 → ⊥) → (input : List ℕ) → judged a input ≡ of_input g input
-    said_asked e input = said_by_arguments a h (Cores g) all_there_lem input ∙ said_group g input e
+    pub said_asked : (g ≡ 0 → ⊥) → (input : List ℕ) → of_input g input ≡ judged a input
+    said_asked z input = sym (said_by_arguments a h (Cores g) e input ∙ said_group g input z)
 
     pub asks_group : not (eqb g 0) ≡ asks_input a
-    asks_group = asks_by_arguments a h (Cores g) all_there_lem
+    asks_group = asks_by_arguments a h (Cores g) e
 
 -- ---- where the input does not count, the same is said whatever it is
 

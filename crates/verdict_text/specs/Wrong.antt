@@ -20,7 +20,7 @@ no_core_text s long = ascii "'" ++ map shown s ++ (if long then ascii "..' is no
 unfoldable pub cut_head_text : ℕ → List ℕ
 cut_head_text n = ascii "the input is cut at byte " ++ decimal n ++ ascii ": words 0 and 1 are 8 bytes\n"
 
-abbrev pub machine_text : ℕ → ℕ → ℕ → List ℕ
+unfoldable pub machine_text : ℕ → ℕ → ℕ → List ℕ
 machine_text cores pages bytes =
     ascii ": a machine (cores: " ++ decimal cores ++ ascii ", pages: " ++ decimal pages ++ ascii ") has " ++ decimal bytes ++ ascii " bytes\n"
 

@@ -1,36 +1,30 @@
 // The arguments in bytes, each of which ends in a zero byte (specs/Arguments.antt).
-ghost use Rattle.std.specs.Prelude.{◌≡◌, ◌+◌, ◌≤◌, ◌<◌, length, take, drop};
-ghost use Rattle.verdict_text.specs.Arguments.{arguments_in, named_core, asked_from};
-ghost use Rattle.verdict_text.specs.inner.First.{first};
+ghost use Rattle.std.specs.Prelude.{◌≡◌, ◌+◌, ◌≤◌, ◌<◌, length, take, drop, IfSome, IfOk, IfErr};
+ghost use Rattle.verdict_text.specs.Arguments.{arguments_in, named_core, Cores, NoCore, asked_from};
+ghost use Rattle.verdict_text.specs.inner.First.{first, core_of};
 
-// The group that the arguments name, up to the first that names no core; and the place of that one, or the end.
-#[derive(Clone, Copy)]
-pub struct Request {
-    pub group: u32,
-    pub at: usize,
-}
-
-// The core that the argument at a place names, or 4.
-pub fn core_at(a: &[u8], at: usize) -> u32
+// The core that the argument at a place names, if it names one.
+pub fn core_at(a: &[u8], at: usize) -> Option<u32>
     requires { at < length a.now }
-    ensures { (result ≡ named_core (first (drop at a.now))) × (result ≤ 4) }
+    ensures core { result ≡ core_of (named_core (first (drop at a.now))) }
+    ensures few { IfSome result (λ k. k < 4) }
 {
     let byte = a[at];
-    if byte < 48 {
-        return 4;
+    if byte < b'0' {
+        return None;
     }
-    if 51 < byte {
-        return 4;
+    if b'3' < byte {
+        return None;
     }
-    let k = word::wide(byte - 48);
+    let k = word::wide(byte - b'0');
     let next = at + 1;
     if next < a.len() {
         if a[next] != 0 {
-            return 4;
+            return None;
         }
-        return k;
+        return Some(k);
     }
-    k
+    Some(k)
 }
 
 // How long the argument at a place is.
@@ -38,30 +32,30 @@ pub fn length_at(a: &[u8], at: usize) -> usize
     requires { at ≤ length a.now }
     ensures { (at + result ≤ length a.now) × (take result (drop at a.now) ≡ first (drop at a.now)) }
 {
-    let mut end = at;
-    while end < a.len() {
+    for end in at..a.len() {
         if a[end] == 0 {
             return end - at;
         }
-        end += 1;
     }
-    end - at
+    a.len() - at
 }
 
-pub fn ask(a: &[u8]) -> Request
+// The group that the arguments name; or the place of the first that names no core. The next argument begins two bytes
+// on only where this one is a digit, so its place is not known before.
+pub fn ask(a: &[u8]) -> Result<u32, usize>
     requires { length a.now ≤ 4096 }
-    ensures a_value { asked_from 0 (arguments_in a.now) ≡ asked_from result.group (arguments_in (drop result.at a.now)) }
-    ensures a_value_2 { result.at < length a.now → named_core (first (drop result.at a.now)) ≡ 4 }
+    ensures cores { IfOk result (λ group. asked_from 0 (arguments_in a.now) ≡ Cores group) }
+    ensures place { IfErr result (λ at. at ≤ length a.now) }
+    ensures no_core { IfErr result (λ at. asked_from 0 (arguments_in a.now) ≡ NoCore (first (drop at a.now))) }
 {
     let mut group: u32 = 0;
     let mut at: usize = 0;
     while at < a.len() {
-        let k = core_at(a, at);
-        if 3 < k {
-            return Request { group, at };
-        }
+        let Some(k) = core_at(a, at) else {
+            return Err(at);
+        };
         group = word::put_bit(group, k, 1);
         at += 2;
     }
-    Request { group, at }
+    Ok(group)
 }

@@ -1,128 +1,128 @@
-// The one line where the arguments or the input are wrong (specs/Wrong.antt), put at the start of a buffer: at most
-// 200 bytes.
+// The one line where the arguments or the input are wrong (specs/Wrong.antt), put into a text: at most 200 bytes.
 ghost use Rattle.std.specs.Prelude.{◌≡◌, map, ◌++◌, ◌+◌, ◌≤◌, length};
-ghost use Rattle.text.specs.Text.{Put, decimal};
 ghost use Rattle.verdict_text.specs.Wrong as wrong;
 
-use text::{put, put_number};
+use text::Text;
 
 fn shown(byte: u8) -> u8
     ensures { result ≡ wrong.shown byte }
 {
-    if byte < 32 {
-        return b'?';
+    match byte {
+        32..=126 => byte,
+        _ => b'?',
     }
-    if 126 < byte {
-        return b'?';
+}
+
+fn put_shown<const N: usize>(text: &mut Text<N>, argument: &[u8])
+    requires room { length text.old + length argument.now ≤ N }
+    ensures text { text.new ≡ text.old ++ map wrong.shown argument.now }
+    ensures bound { length text.new ≤ length text.old + length argument.now }
+{
+    for byte in argument {
+        text.put_byte(shown(*byte));
     }
-    byte
 }
 
-fn put_shown(out: &mut [u8], at: usize, s: &[u8]) -> usize
-    requires { at + length s.now ≤ length out.old }
-    ensures { Put out.old at (map wrong.shown s.now) result out.new }
+#[tactic(auto, unfolding(crate::specs::Wrong::long_arguments_text))]
+pub fn put_long_arguments<const N: usize>(text: &mut Text<N>)
+    requires room { length text.old + 200 ≤ N }
+    ensures text { text.new ≡ text.old ++ wrong.long_arguments_text }
+    ensures bound { length text.new ≤ length text.old + 200 }
 {
-    let mut i: usize = 0;
-    while i < s.len() {
-        out[at + i] = shown(s[i]);
-        i += 1;
-    }
-    at + i
+    text.put(b"the arguments are too long: more than 4096 bytes\n");
 }
 
-pub fn put_long_arguments(out: &mut [u8]) -> usize
-    requires { 200 ≤ length out.old }
-    ensures { Put out.old 0 wrong.long_arguments_text result out.new × (result ≤ 200) }
+#[tactic(auto, unfolding(crate::specs::Wrong::no_group_text))]
+pub fn put_no_group<const N: usize>(text: &mut Text<N>)
+    requires room { length text.old + 200 ≤ N }
+    ensures text { text.new ≡ text.old ++ wrong.no_group_text }
+    ensures bound { length text.new ≤ length text.old + 200 }
 {
-    put(
-        out,
-        0,
-        b"the arguments are too long: more than 4096 bytes\n",
-    )
+    text.put(b"no group: name its cores, as in 'verdict 0 2'\n");
 }
 
-pub fn put_no_group(out: &mut [u8]) -> usize
-    requires { 200 ≤ length out.old }
-    ensures { Put out.old 0 wrong.no_group_text result out.new × (result ≤ 200) }
+#[tactic(auto, unfolding(crate::specs::Wrong::no_core_text))]
+pub fn put_no_core<const N: usize>(text: &mut Text<N>, argument: &[u8], long: bool)
+    requires room { length text.old + 200 ≤ N }
+    requires short { length argument.now ≤ 16 }
+    ensures text { text.new ≡ text.old ++ wrong.no_core_text argument.now long }
+    ensures bound { length text.new ≤ length text.old + 200 }
 {
-    put(out, 0, b"no group: name its cores, as in 'verdict 0 2'\n")
-}
-
-pub fn put_no_core(out: &mut [u8], s: &[u8], long: bool) -> usize
-    requires { (200 ≤ length out.old) × (length s.now ≤ 16) }
-    ensures { Put out.old 0 (wrong.no_core_text s.now long) result out.new × (result ≤ 200) }
-{
-    let p = put(out, 0, b"'");
-    let q = put_shown(out, p, s);
+    text.put(b"'");
+    put_shown(text, argument);
     if long {
-        return put(out, q, b"..' is no core number: 0 to 3\n");
+        text.put(b"..' is no core number: 0 to 3\n");
+    } else {
+        text.put(b"' is no core number: 0 to 3\n");
     }
-    put(out, q, b"' is no core number: 0 to 3\n")
 }
 
-// Some words, a number and some more.
-fn put_between(out: &mut [u8], before: &[u8], n: u64, after: &[u8]) -> usize
-    requires { (120 ≤ length out.old) × (length before.now ≤ 30) × (length after.now ≤ 70) }
-    ensures { Put out.old 0 (before.now ++ decimal n ++ after.now) result out.new × (result ≤ 120) }
+#[tactic(auto, unfolding(crate::specs::Wrong::cut_head_text))]
+pub fn put_cut_head<const N: usize>(text: &mut Text<N>, n: u64)
+    requires room { length text.old + 200 ≤ N }
+    ensures text { text.new ≡ text.old ++ wrong.cut_head_text n }
+    ensures bound { length text.new ≤ length text.old + 200 }
 {
-    let p = put(out, 0, before);
-    let q = put_number(out, p, n);
-    put(out, q, after)
+    text.put(b"the input is cut at byte ");
+    text.put_number(n);
+    text.put(b": words 0 and 1 are 8 bytes\n");
 }
 
-pub fn put_cut_head(out: &mut [u8], n: u64) -> usize
-    requires { 200 ≤ length out.old }
-    ensures { Put out.old 0 (wrong.cut_head_text n) result out.new × (result ≤ 200) }
+// This and `put_bad_pages` differ in two words: one function for both would take them, and a bound on them.
+#[tactic(auto, unfolding(crate::specs::Wrong::bad_cores_text))]
+pub fn put_bad_cores<const N: usize>(text: &mut Text<N>, n: u32)
+    requires room { length text.old + 200 ≤ N }
+    ensures text { text.new ≡ text.old ++ wrong.bad_cores_text n }
+    ensures bound { length text.new ≤ length text.old + 200 }
 {
-    put_between(
-        out,
-        b"the input is cut at byte ",
-        n,
-        b": words 0 and 1 are 8 bytes\n",
-    )
+    text.put(b"word 0 says ");
+    text.put_number(n as u64);
+    text.put(b" cores, not 1 to 4\n");
 }
 
-pub fn put_bad_cores(out: &mut [u8], n: u32) -> usize
-    requires { 200 ≤ length out.old }
-    ensures { Put out.old 0 (wrong.bad_cores_text n) result out.new × (result ≤ 200) }
+#[tactic(auto, unfolding(crate::specs::Wrong::bad_pages_text))]
+pub fn put_bad_pages<const N: usize>(text: &mut Text<N>, n: u32)
+    requires room { length text.old + 200 ≤ N }
+    ensures text { text.new ≡ text.old ++ wrong.bad_pages_text n }
+    ensures bound { length text.new ≤ length text.old + 200 }
 {
-    put_between(out, b"word 0 says ", n as u64, b" cores, not 1 to 4\n")
-}
-
-pub fn put_bad_pages(out: &mut [u8], n: u32) -> usize
-    requires { 200 ≤ length out.old }
-    ensures { Put out.old 0 (wrong.bad_pages_text n) result out.new × (result ≤ 200) }
-{
-    put_between(out, b"word 1 says ", n as u64, b" pages, not 1 to 4096\n")
+    text.put(b"word 1 says ");
+    text.put_number(n as u64);
+    text.put(b" pages, not 1 to 4096\n");
 }
 
 // The size that a machine has: at most 120 bytes.
-fn put_machine(out: &mut [u8], at: usize, cores: u32, pages: u32, bytes: u64) -> usize
-    requires { at + 120 ≤ length out.old }
-    ensures { Put out.old at (wrong.machine_text cores pages bytes) result out.new × (result ≤ at + 120) }
+fn put_machine<const N: usize>(text: &mut Text<N>, cores: u32, pages: u32, bytes: u64)
+    requires room { length text.old + 120 ≤ N }
+    ensures text { text.new ≡ text.old ++ wrong.machine_text cores pages bytes }
+    ensures bound { length text.new ≤ length text.old + 120 }
 {
-    let p = put(out, at, b": a machine (cores: ");
-    let q = put_number(out, p, cores as u64);
-    let s = put(out, q, b", pages: ");
-    let u = put_number(out, s, pages as u64);
-    let v = put(out, u, b") has ");
-    let w = put_number(out, v, bytes);
-    put(out, w, b" bytes\n")
+    text.put(b": a machine (cores: ");
+    text.put_number(cores as u64);
+    text.put(b", pages: ");
+    text.put_number(pages as u64);
+    text.put(b") has ");
+    text.put_number(bytes);
+    text.put(b" bytes\n");
 }
 
-pub fn put_cut(out: &mut [u8], n: u64, cores: u32, pages: u32, bytes: u64) -> usize
-    requires { 200 ≤ length out.old }
-    ensures { Put out.old 0 (wrong.cut_text n cores pages bytes) result out.new × (result ≤ 200) }
+#[tactic(auto, unfolding(crate::specs::Wrong::cut_text))]
+pub fn put_cut<const N: usize>(text: &mut Text<N>, n: u64, cores: u32, pages: u32, bytes: u64)
+    requires room { length text.old + 200 ≤ N }
+    ensures text { text.new ≡ text.old ++ wrong.cut_text n cores pages bytes }
+    ensures bound { length text.new ≤ length text.old + 200 }
 {
-    let p = put(out, 0, b"the input is cut at byte ");
-    let q = put_number(out, p, n);
-    put_machine(out, q, cores, pages, bytes)
+    text.put(b"the input is cut at byte ");
+    text.put_number(n);
+    put_machine(text, cores, pages, bytes);
 }
 
-pub fn put_long(out: &mut [u8], cores: u32, pages: u32, bytes: u64) -> usize
-    requires { 200 ≤ length out.old }
-    ensures { Put out.old 0 (wrong.long_text cores pages bytes) result out.new × (result ≤ 200) }
+#[tactic(auto, unfolding(crate::specs::Wrong::long_text))]
+pub fn put_long<const N: usize>(text: &mut Text<N>, cores: u32, pages: u32, bytes: u64)
+    requires room { length text.old + 200 ≤ N }
+    ensures text { text.new ≡ text.old ++ wrong.long_text cores pages bytes }
+    ensures bound { length text.new ≤ length text.old + 200 }
 {
-    let p = put(out, 0, b"the input is too long");
-    put_machine(out, p, cores, pages, bytes)
+    text.put(b"the input is too long");
+    put_machine(text, cores, pages, bytes);
 }

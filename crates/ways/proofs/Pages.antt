@@ -1,6 +1,6 @@
 -- The pages that ways come to are those of reach.
 -- Assumes nothing.
-use Rattle.std.specs.Prelude.{if◌then◌else◌}
+use Rattle.std.specs.Prelude.{if◌then◌else◌, Option, Some, None}
 use mathlib.Core.Path.{◌≡◌, refl, sym, ap, ap₂, ◌∙◌}
 use mathlib.Core.Bool.{Bool, true, false, ◌&&◌}
 use mathlib.Core.List.{List, [], ◌∷◌, ◌++◌, map, flat_map, map-append, map-map, append-nil}
@@ -10,8 +10,6 @@ use Rattle.layout.specs.Blocks.{block}
 use Rattle.records.specs.declared.Store.{Store}
 use Rattle.records.specs.declared.Walk.{Walk}
 use Rattle.records.specs.Records.{stores, walks, store_in, walk_in, store_numbers, walk_numbers}
-use Rattle.tlb.specs.declared.Entry.{Entry}
-use Rattle.tlb.specs.declared.Entry.TheVariants.{Word, Missing}
 use Rattle.tlb.specs.Walks.{walk_level, walk_r, walk_ba, base_address, entry_at, ptea_at, pte_p, pte_r, pte_ba, complete}
 use Rattle.tlb.specs.Steps.{origin_of}
 use Rattle.reach.specs.Lists.{range, select}
@@ -107,23 +105,23 @@ over_roots cs t q f e =
 
 -- ---- entries
 
-entry_pages : (x : Named) (e : Entry) → map (λ (y : Named). y.page) (entry_named x e) ≡ named_by any_rights e
-entry_pages x (Word e) = go (pte_p e)
+entry_pages : (x : Named) (e : Option ℕ) → map (λ (y : Named). y.page) (entry_named x e) ≡ named_by any_rights e
+entry_pages x (Some e) = go (pte_p e)
   where
     go : (p : Bool) → map (λ (y : Named). y.page) (if p then naming (x.level - 1) (pte_ba e) (grants_write (pte_r e)) ∷ [] else []) ≡ (if p && true then pte_ba e ∷ [] else [])
     go true = refl
     go false = refl
-entry_pages x Missing = refl
+entry_pages x None = refl
 
-write_pages : (x : Named) (e : Entry) → map (λ (y : Named). y.page) (select (λ (y : Named). y.write) (entry_named x e)) ≡ named_by grants_write e
+write_pages : (x : Named) (e : Option ℕ) → map (λ (y : Named). y.page) (select (λ (y : Named). y.write) (entry_named x e)) ≡ named_by grants_write e
 unfolding select
-write_pages x (Word e) = go (pte_p e) (grants_write (pte_r e))
+write_pages x (Some e) = go (pte_p e) (grants_write (pte_r e))
   where
     go : (p g : Bool) → map (λ (y : Named). y.page) (select (λ (y : Named). y.write) (if p then naming (x.level - 1) (pte_ba e) g ∷ [] else [])) ≡ (if p && g then pte_ba e ∷ [] else [])
     go true true = refl
     go true false = refl
     go false g = refl
-write_pages x Missing = refl
+write_pages x None = refl
 
 next_pages : (m : List ℕ) (w : Way) → map page (next_ways m w) ≡ named any_rights m (page w)
 unfolding next_ways named

@@ -1,6 +1,7 @@
--- Every way is real: followed from where it begins, through present entries, it comes to what it names, and its core is one of those that were asked.
+-- Every way is real: followed from where it begins, through present entries, it comes to what it names, and its core is
+-- one of those that were asked.
 -- Assumes nothing.
-use Rattle.std.specs.Prelude.{if◌then◌else◌}
+use Rattle.std.specs.Prelude.{if◌then◌else◌, Option, Some, None}
 use mathlib.Core.Path.{◌≡◌, refl, sym, ap, ◌∙◌}
 use mathlib.Core.Bool.{Bool, true, false}
 use mathlib.Core.List.{List, [], ◌∷◌, ◌++◌, map, flat_map, map-id, append-nil}
@@ -10,8 +11,6 @@ use lib.Dec.{eqb, ltb}
 use borrow.Author.Tests.{ltb-true, eq-eqb}
 use Rattle.layout.specs.Blocks.{block}
 use Rattle.records.specs.Records.{walk_numbers, store_numbers}
-use Rattle.tlb.specs.declared.Entry.{Entry}
-use Rattle.tlb.specs.declared.Entry.TheVariants.{Word, Missing}
 use Rattle.tlb.specs.Walks.{pte_p, pte_r, pte_ba, entry_at, ptea_at}
 use Rattle.reach.specs.Reach.{grants_write}
 use Rattle.reach.proofs.Lists.{Each, In, in_here, in_there, each_append, flat_map_ext, flat_map_each, if_both}
@@ -45,8 +44,8 @@ at_place m x i h =
     same q = rw q refl
 
 -- an entry names at most one page, one level down
-only : (x : Named) (e : Entry) → Each (λ (y : Named). (entry_named x e ≡ y ∷ []) × (y.level ≡ x.level - 1)) (entry_named x e)
-only x (Word e) = go (pte_p e)
+only : (x : Named) (e : Option ℕ) → Each (λ (y : Named). (entry_named x e ≡ y ∷ []) × (y.level ≡ x.level - 1)) (entry_named x e)
+only x (Some e) = go (pte_p e)
   where
     y : Named
     y = naming (x.level - 1) (pte_ba e) (grants_write (pte_r e))
@@ -54,7 +53,7 @@ only x (Word e) = go (pte_p e)
     go : (p : Bool) → Each (λ (z : Named). ((if p then y ∷ [] else []) ≡ z ∷ []) × (z.level ≡ x.level - 1)) (if p then y ∷ [] else [])
     go true = ((refl, refl), tt)
     go false = tt
-only x Missing = tt
+only x None = tt
 
 -- the address of one entry more goes last
 more_entries : (n a b c : ℕ) → n < 2 → entries_of (n + 1) (if eqb n 0 then c else a) (if eqb n 0 then 0 else c) ≡ entries_of n a b ++ (c ∷ [])

@@ -1,9 +1,10 @@
--- Laws of the search: the lowest of lists joined, what a table gone through once has left, and one list of ways after another.
+-- Laws of the search: the lowest of lists joined, what a table gone through once has left, and one list of ways after
+-- another.
 -- Assumes nothing.
-use Rattle.std.specs.Prelude.{if◌then◌else◌}
+use Rattle.std.specs.Prelude.{if◌then◌else◌, Option, Some, None}
 use mathlib.Core.Path.{◌≡◌, refl, sym, ap, subst, ◌∙◌}
 use mathlib.Core.Logic.{◌≢◌}
-use mathlib.Core.Bool.{Bool, true, false, ◌&&◌, ◌||◌, not, false≢true}
+use mathlib.Core.Bool.{Bool, true, false, ◌&&◌, not, false≢true}
 use mathlib.Core.List.{List, [], ◌∷◌, ◌++◌, map, flat_map, map-map, map-id}
 use Prim.Native.Nat.{ℕ, ◌+◌, ◌-◌, ◌*◌, ◌%◌, ◌^◌, ◌<◌, ◌≤◌}
 use native.Mathlib.Omega.{arith}
@@ -12,13 +13,11 @@ use native.Mathlib.Decide.{ℕ_discrete}
 use lib.Dec.{eqb, ltb, leb}
 use lib.ListN.{length, get_or, set, length-set}
 use lib.Seq.{get_or-set_other}
-use borrow.Author.Tests.{lt-ltb, le-ltb, lt-leb, le-leb, ne_eqb, ltb-true, ltb-false, leb-true, not-true}
+use borrow.Author.Tests.{lt-ltb, le-ltb, lt-leb, le-leb, ne_eqb, ltb-true, ltb-false, eqb-true, leb-true, not-true}
 use Rattle.word.specs.Bytes.{bytes_at}
 use Rattle.word.proofs.Truth.{and_left, and_right, and_both, tested}
 use Rattle.records.specs.Records.{all}
 use Rattle.records.proofs.Counts.{either}
-use Rattle.tlb.specs.declared.Entry.{Entry}
-use Rattle.tlb.specs.declared.Entry.TheVariants.{Word, Missing}
 use Rattle.tlb.specs.Walks.{entry_at, ptea_at, pte_p, pte_r, pte_ba}
 use Rattle.reach.specs.Lists.{range, select}
 use Rattle.reach.specs.Reach.{grants_write}
@@ -26,74 +25,70 @@ use Rattle.reach.proofs.Lists.{flat_map_append, flat_map_one, flat_map_ext, flat
 use Rattle.reach.proofs.Marking.{entry_at_lem}
 use Rattle.ways.specs.declared.Named.{Named}
 use Rattle.ways.specs.declared.Way.{Way}
-use Rattle.ways.specs.declared.Found.{Found}
-use Rattle.ways.specs.declared.Found.TheVariants.{Nothing, Lowest}
-use Rattle.ways.specs.declared.search.Want.{Want}
+use Rattle.std.specs.Prelude.{Option, None, Some}
+use Rattle.ways.specs.declared.want.Fault.{Fault}
+use Rattle.ways.specs.declared.want.Want.{Want}
+use Rattle.ways.specs.declared.want.Want.TheVariants.{Beyond, Marked, Page}
 use Rattle.ways.specs.Ways.{naming, entry_named, next_named, further, next_ways, onward, all_from, page, lower, lowest_way}
-use Rattle.ways.specs.inner.Search.{wanted, is_lowest, hits, sought, table_names, not_lower, Known, Searched, through_entry}
+use Rattle.ways.specs.inner.Search.{shows, wanted, least_page, is_lowest, hits, sought, table_names, not_lower, Known, Searched, through_entry}
 use Rattle.ways.proofs.Lists.{select_join, select_map, map_flat_map, flat_flat, flat_map_where, all_map}
 
 -- ---- what is looked for
 
-module _ (a : Want) (n : ℕ) (c : List ℕ) (x : Named) where
-  pub wanted_below : x.page < a.low → false ≡ wanted a n c x
+module _ (n : ℕ) (c : List ℕ) (x : Named) where
+  pub wanted_beyond : leb n x.page ≡ wanted Beyond n c x
   unfolding wanted
-  wanted_below h = rw (lt-ltb x.page a.low h) refl
+  wanted_beyond = tested (ltb x.page n) (λ t. rw t (lt-leb n x.page (ltb-true x.page n t))) (λ t. rw t (le-leb n x.page (ltb-false x.page n t)))
 
-  module _ (from : a.low ≤ x.page) where
-    pub wanted_beyond : a.kind ≡ 0 → leb n x.page ≡ wanted a n c x
+  pub wanted_itself : (p : ℕ) → eqb x.page p ≡ wanted (Page p) n c x
+  unfolding wanted
+  wanted_itself p = refl
+
+  module _ (f : Fault) (l : ℕ) where
+    pub wanted_below : x.page < l → false ≡ wanted (Marked f l) n c x
     unfolding wanted
-    wanted_beyond e = rw (le-ltb x.page a.low from, e) (tested (ltb x.page n) (λ t. rw t (lt-leb n x.page (ltb-true x.page n t))) (λ t. rw t (le-leb n x.page (ltb-false x.page n t))))
+    wanted_below h = rw (lt-ltb x.page l h) refl
 
-    pub wanted_itself : a.kind ≡ 3 → eqb x.page a.low ≡ wanted a n c x
+    pub wanted_out : l ≤ x.page → n ≤ x.page → false ≡ wanted (Marked f l) n c x
     unfolding wanted
-    wanted_itself e = rw (le-ltb x.page a.low from, e) refl
+    wanted_out from h = rw (le-ltb x.page l from, le-ltb x.page n h) refl
 
-    pub wanted_out : a.kind ≢ 0 → a.kind ≢ 3 → n ≤ x.page → false ≡ wanted a n c x
+    pub wanted_marked : l ≤ x.page → x.page < n → shows f x && eqb (get_or c x.page 0) 1 ≡ wanted (Marked f l) n c x
     unfolding wanted
-    wanted_out d i h = rw (le-ltb x.page a.low from, ne_eqb a.kind 0 d, ne_eqb a.kind 3 i, le-ltb x.page n h) refl
+    wanted_marked from h = rw (le-ltb x.page l from, lt-ltb x.page n h) refl
 
-    pub wanted_table : a.kind ≡ 1 → x.page < n → (eqb x.level 0 && x.write) && eqb (get_or c x.page 0) 1 ≡ wanted a n c x
-    unfolding wanted
-    wanted_table e h = rw (le-ltb x.page a.low from, e, lt-ltb x.page n h) refl
-
-    pub wanted_page : a.kind ≢ 0 → a.kind ≢ 3 → a.kind ≢ 1 → x.page < n → (not (eqb x.level 0) || x.write) && eqb (get_or c x.page 0) 1 ≡ wanted a n c x
-    unfolding wanted
-    wanted_page d i e h = rw (le-ltb x.page a.low from, ne_eqb a.kind 0 d, ne_eqb a.kind 3 i, ne_eqb a.kind 1 e, lt-ltb x.page n h) refl
-
--- nothing is looked for below the page low
-pub wanted_from : (a : Want) (n : ℕ) (c : List ℕ) (x : Named) → wanted a n c x ≡ true → a.low ≤ x.page
+-- nothing is looked for below that page
+pub wanted_from : (a : Want) (n : ℕ) (c : List ℕ) (x : Named) → wanted a n c x ≡ true → least_page a ≤ x.page
 unfolding wanted
-wanted_from a n c x = go (ltb x.page a.low) refl
+wanted_from Beyond n c x h = omega arith
+wanted_from (Page p) n c x h = let e = eqb-true x.page p h in omega (arith, e)
+wanted_from (Marked f l) n c x h = go (ltb x.page l) refl h
   where
-    rest : Bool
-    rest = if eqb a.kind 0 then not (ltb x.page n) else if eqb a.kind 3 then eqb x.page a.low else if ltb x.page n then (if eqb a.kind 1 then (eqb x.level 0 && x.write) && eqb (get_or c x.page 0) 1 else (not (eqb x.level 0) || x.write) && eqb (get_or c x.page 0) 1) else false
-
-    go : (b : Bool) → ltb x.page a.low ≡ b → (if b then false else rest) ≡ true → a.low ≤ x.page
-    go true e h = absurd (false≢true h)
-    go false e h = ltb-false x.page a.low e
+    go : (b : Bool) → ltb x.page l ≡ b → (if b then false else if ltb x.page n then shows f x && eqb (get_or c x.page 0) 1 else false) ≡ true → l ≤ x.page
+    go true e u = absurd (false≢true u)
+    go false e u = ltb-false x.page l e
 
 -- ---- the lower of two, of three
 
-pub lower_none : (f : Found) → lower f Nothing ≡ f
+pub lower_none : (f : Option Way) → lower f None ≡ f
 unfolding lower
-lower_none Nothing = refl
-lower_none (Lowest v) = refl
+lower_none None = refl
+lower_none (Some v) = refl
 
-pub lower_nothing : (f : Found) (w : Way) → f ≡ Nothing → Lowest w ≡ lower f (Lowest w)
+pub lower_nothing : (f : Option Way) (w : Way) → f ≡ None → Some w ≡ lower f (Some w)
 unfolding lower
 lower_nothing f w e = rw e refl
 
-pub lower_first : (f : Found) (v w : Way) → f ≡ Lowest v → page w < page v → Lowest w ≡ lower f (Lowest w)
+pub lower_first : (f : Option Way) (v w : Way) → f ≡ Some v → page w < page v → Some w ≡ lower f (Some w)
 unfolding lower
 lower_first f v w e h = rw (e, lt-ltb (page w) (page v) h) refl
 
-pub lower_second : (f : Found) (v w : Way) → f ≡ Lowest v → page v ≤ page w → Lowest v ≡ lower f (Lowest w)
+pub lower_second : (f : Option Way) (v w : Way) → f ≡ Some v → page v ≤ page w → Some v ≡ lower f (Some w)
 unfolding lower
 lower_second f v w e h = rw (e, le-ltb (page w) (page v) h) refl
 
 three : (u v w : Way) (a b c : Bool) → ltb (page v) (page u) ≡ a → ltb (page w) (page v) ≡ b → ltb (page w) (page u) ≡ c
-    → lower (if a then Lowest v else Lowest u) (Lowest w) ≡ lower (Lowest u) (if b then Lowest w else Lowest v)
+    → lower (if a then Some v else Some u) (Some w) ≡ lower (Some u) (if b then Some w else Some v)
 unfolding lower
 three u v w true true true ea eb ec = rw (eb, ec) refl
 three u v w true true false ea eb ec = let i = ltb-true (page v) (page u) ea in let j = ltb-true (page w) (page v) eb in let k = ltb-false (page w) (page u) ec in absurd (omega arith)
@@ -102,41 +97,41 @@ three u v w false true c ea eb ec = refl
 three u v w false false true ea eb ec = let i = ltb-false (page v) (page u) ea in let j = ltb-false (page w) (page v) eb in let k = ltb-true (page w) (page u) ec in absurd (omega arith)
 three u v w false false false ea eb ec = rw (ec, ea) refl
 
-pub lower_assoc : (f g h : Found) → lower (lower f g) h ≡ lower f (lower g h)
+pub lower_assoc : (f g h : Option Way) → lower (lower f g) h ≡ lower f (lower g h)
 unfolding lower
-lower_assoc Nothing g h = refl
-lower_assoc (Lowest u) Nothing h = refl
-lower_assoc (Lowest u) (Lowest v) Nothing = lower_none (if ltb (page v) (page u) then Lowest v else Lowest u)
-lower_assoc (Lowest u) (Lowest v) (Lowest w) = three u v w (ltb (page v) (page u)) (ltb (page w) (page v)) (ltb (page w) (page u)) refl refl refl
+lower_assoc None g h = refl
+lower_assoc (Some u) None h = refl
+lower_assoc (Some u) (Some v) None = lower_none (if ltb (page v) (page u) then Some v else Some u)
+lower_assoc (Some u) (Some v) (Some w) = three u v w (ltb (page v) (page u)) (ltb (page w) (page v)) (ltb (page w) (page u)) refl refl refl
 
 lowest_append : (l r : List Way) → lowest_way (l ++ r) ≡ lower (lowest_way l) (lowest_way r)
 unfolding lower lowest_way
 lowest_append [] r = refl
-lowest_append (w ∷ l) r = ap (lower (Lowest w)) (lowest_append l r) ∙ sym (lower_assoc (Lowest w) (lowest_way l) (lowest_way r))
+lowest_append (w ∷ l) r = ap (lower (Some w)) (lowest_append l r) ∙ sym (lower_assoc (Some w) (lowest_way l) (lowest_way r))
 
 module _ (P : Named → Bool) where
   pub sought_append : (l r : List Way) → sought P (l ++ r) ≡ lower (sought P l) (sought P r)
   unfolding sought
   sought_append l r = ap lowest_way (select_join (λ w. P w.names) l r) ∙ lowest_append (select (λ w. P w.names) l) (select (λ w. P w.names) r)
 
-  pub sought_none : sought P [] ≡ Nothing
+  pub sought_none : sought P [] ≡ None
   unfolding sought select lowest_way
   sought_none = refl
 
-  pub sought_one : (w : Way) → P w.names ≡ true → sought P (w ∷ []) ≡ Lowest w
+  pub sought_one : (w : Way) → P w.names ≡ true → sought P (w ∷ []) ≡ Some w
   unfolding lower sought select lowest_way
   sought_one w e = rw e refl
 
-  pub sought_not : (w : Way) → P w.names ≡ false → sought P (w ∷ []) ≡ Nothing
+  pub sought_not : (w : Way) → P w.names ≡ false → sought P (w ∷ []) ≡ None
   unfolding lower sought select lowest_way
   sought_not w e = rw e refl
 
   -- a way that was tested
-  pub taken : (f g : Found) (w : Way) (t : Bool) → t ≡ P w.names → t ≡ true → g ≡ lower f (Lowest w) → g ≡ lower f (sought P (w ∷ []))
+  pub taken : (f g : Option Way) (w : Way) (t : Bool) → t ≡ P w.names → t ≡ true → g ≡ lower f (Some w) → g ≡ lower f (sought P (w ∷ []))
   unfolding lower
   taken f g w t p q e = e ∙ ap (lower f) (sym (sought_one w (sym p ∙ q)))
 
-  pub left : (f : Found) (w : Way) (t : Bool) → t ≡ P w.names → t ≡ false → f ≡ lower f (sought P (w ∷ []))
+  pub left : (f : Option Way) (w : Way) (t : Bool) → t ≡ P w.names → t ≡ false → f ≡ lower f (sought P (w ∷ []))
   unfolding lower
   left f w t p q = sym (ap (lower f) (sought_not w (sym p ∙ q)) ∙ lower_none f)
 
@@ -151,12 +146,12 @@ module _ (P : Named → Bool) where
   -- an entry that is looked for, and one that is not
   module _ (w : Way) (i e : ℕ) where
     abbrev through : List Way
-    through = map (further w i) (entry_named w.names (Word e))
+    through = map (further w i) (entry_named w.names (Some e))
 
     abbrev named : Named
     named = naming (w.names.level - 1) (pte_ba e) (grants_write (pte_r e))
 
-    pub hit_taken : (f g : Found) (b : Bool) → b ≡ hits P w.names.level e → b ≡ true → g ≡ lower f (Lowest (further w i named)) → g ≡ lower f (sought P through)
+    pub hit_taken : (f g : Option Way) (b : Bool) → b ≡ hits P w.names.level e → b ≡ true → g ≡ lower f (Some (further w i named)) → g ≡ lower f (sought P through)
     unfolding hits
     hit_taken f g b p q z = go (pte_p e) (sym p ∙ q)
       where
@@ -164,7 +159,7 @@ module _ (P : Named → Bool) where
         go true h = z ∙ ap (lower f) (sym (sought_one (further w i named) h))
         go false h = absurd (false≢true h)
 
-    pub hit_left : (f : Found) (b : Bool) → b ≡ hits P w.names.level e → b ≡ false → f ≡ lower f (sought P through)
+    pub hit_left : (f : Option Way) (b : Bool) → b ≡ hits P w.names.level e → b ≡ false → f ≡ lower f (sought P through)
     unfolding hits
     hit_left f b p q = go (pte_p e) (sym p ∙ q)
       where
@@ -188,50 +183,50 @@ module _ (w : Way) (i : ℕ) (x : Named) (h : i < 1024) where
 -- ---- what is not lower
 
 -- a page that is not lower stays so
-still : (f g : Found) (p : ℕ) → not_lower f p ≡ true → not_lower (lower f g) p ≡ true
+still : (f g : Option Way) (p : ℕ) → not_lower f p ≡ true → not_lower (lower f g) p ≡ true
 unfolding lower
-still Nothing g p e = absurd (false≢true e)
-still (Lowest v) Nothing p e = e
-still (Lowest v) (Lowest w) p e = go (ltb (page w) (page v)) refl
+still None g p e = absurd (false≢true e)
+still (Some v) None p e = e
+still (Some v) (Some w) p e = go (ltb (page w) (page v)) refl
   where
-    go : (b : Bool) → ltb (page w) (page v) ≡ b → not_lower (if b then Lowest w else Lowest v) p ≡ true
+    go : (b : Bool) → ltb (page w) (page v) ≡ b → not_lower (if b then Some w else Some v) p ≡ true
     go true q = let i = ltb-true (page w) (page v) q in let j = ltb-false p (page v) (not-true (ltb p (page v)) e) in rw (le-ltb p (page w) (omega arith)) refl
     go false q = e
 
-own : (f : Found) (w : Way) → not_lower (lower f (Lowest w)) (page w) ≡ true
+own : (f : Option Way) (w : Way) → not_lower (lower f (Some w)) (page w) ≡ true
 unfolding lower
-own Nothing w = rw (le-ltb (page w) (page w) (omega arith)) refl
-own (Lowest v) w = go (ltb (page w) (page v)) refl
+own None w = rw (le-ltb (page w) (page w) (omega arith)) refl
+own (Some v) w = go (ltb (page w) (page v)) refl
   where
-    go : (b : Bool) → ltb (page w) (page v) ≡ b → not_lower (if b then Lowest w else Lowest v) (page w) ≡ true
+    go : (b : Bool) → ltb (page w) (page v) ≡ b → not_lower (if b then Some w else Some v) (page w) ≡ true
     go true q = rw (le-ltb (page w) (page w) (omega arith)) refl
     go false q = rw q refl
 
 -- nothing among some ways is lower than what they and others come to
-lowest_all : (f : Found) (l : List Way) → all (λ w. not_lower (lower f (lowest_way l)) (page w)) l ≡ true
+lowest_all : (f : Option Way) (l : List Way) → all (λ w. not_lower (lower f (lowest_way l)) (page w)) l ≡ true
 unfolding lower lowest_way all
 lowest_all f [] = refl
 lowest_all f (w ∷ l) =
-    subst (λ (z : Found). all (λ v. not_lower z (page v)) (w ∷ l) ≡ true) (lower_assoc f (Lowest w) (lowest_way l))
-    (and_both _ _ (still (lower f (Lowest w)) (lowest_way l) (page w) (own f w)) (lowest_all (lower f (Lowest w)) l))
+    subst (λ (z : Option Way). all (λ v. not_lower z (page v)) (w ∷ l) ≡ true) (lower_assoc f (Some w) (lowest_way l))
+    (and_both _ _ (still (lower f (Some w)) (lowest_way l) (page w) (own f w)) (lowest_all (lower f (Some w)) l))
 
 -- where nothing is lower, nothing else is found
-quiet_none : (f : Found) (l : List Way) → all (λ w. not_lower f (page w)) l ≡ true → lower f (lowest_way l) ≡ f
+quiet_none : (f : Option Way) (l : List Way) → all (λ w. not_lower f (page w)) l ≡ true → lower f (lowest_way l) ≡ f
 unfolding lower lowest_way all
 quiet_none f [] e = lower_none f
-quiet_none Nothing (w ∷ l) e = absurd (false≢true e)
-quiet_none (Lowest v) (w ∷ l) e =
+quiet_none None (w ∷ l) e = absurd (false≢true e)
+quiet_none (Some v) (w ∷ l) e =
     let h : ltb (page w) (page v) ≡ false = not-true (ltb (page w) (page v)) (and_left (not (ltb (page w) (page v))) _ e) in
-    sym (lower_assoc (Lowest v) (Lowest w) (lowest_way l)) ∙ ap (λ (z : Found). lower z (lowest_way l)) (same h) ∙ quiet_none (Lowest v) l (and_right (not (ltb (page w) (page v))) _ e)
+    sym (lower_assoc (Some v) (Some w) (lowest_way l)) ∙ ap (λ (z : Option Way). lower z (lowest_way l)) (same h) ∙ quiet_none (Some v) l (and_right (not (ltb (page w) (page v))) _ e)
   where
-    same : ltb (page w) (page v) ≡ false → lower (Lowest v) (Lowest w) ≡ Lowest v
+    same : ltb (page w) (page v) ≡ false → lower (Some v) (Some w) ≡ Some v
     same h = rw h refl
 
 -- ---- the entries of a table, whatever way leads to it
 
-entry_level : (x y : Named) (e : Entry) → x.level ≡ y.level → entry_named x e ≡ entry_named y e
-entry_level x y (Word e) h = ap (λ (l : ℕ). if pte_p e then naming (l - 1) (pte_ba e) (grants_write (pte_r e)) ∷ [] else []) h
-entry_level x y Missing h = refl
+entry_level : (x y : Named) (e : Option ℕ) → x.level ≡ y.level → entry_named x e ≡ entry_named y e
+entry_level x y (Some e) h = ap (λ (l : ℕ). if pte_p e then naming (l - 1) (pte_ba e) (grants_write (pte_r e)) ∷ [] else []) h
+entry_level x y None h = refl
 
 -- addresses have 32 bits
 pub low_page : (x i : ℕ) → ptea_at x i ≡ ptea_at (x % 2 ^ 20) i
@@ -262,60 +257,60 @@ module _ (P : Named → Bool) (m : List ℕ) where
   passing l = select (λ w. P w.names) l
 
   -- tested by ways, and by names
-  by_names : (f : Found) (w : Way) → w.names.level ≡ 1 → all (λ v. not_lower f (page v)) (passing (next_ways m w)) ≡ all (λ (x : Named). not_lower f x.page) (select P (table_names m (page w % 2 ^ 20)))
+  by_names : (f : Option Way) (w : Way) → w.names.level ≡ 1 → all (λ v. not_lower f (page v)) (passing (next_ways m w)) ≡ all (λ (x : Named). not_lower f x.page) (select P (table_names m (page w % 2 ^ 20)))
   by_names f w h =
       all_map (λ (x : Named). not_lower f x.page) (λ (v : Way). v.names) (passing (next_ways m w))
       ∙ ap (all (λ (x : Named). not_lower f x.page)) (sym (select_map P (λ (v : Way). v.names) (next_ways m w)) ∙ ap (select P) (table_names_lem m w h))
 
-  more : (f g : Found) (l : List Named) → all (λ (x : Named). not_lower f x.page) l ≡ true → all (λ (x : Named). not_lower (lower f g) x.page) l ≡ true
+  more : (f g : Option Way) (l : List Named) → all (λ (x : Named). not_lower f x.page) l ≡ true → all (λ (x : Named). not_lower (lower f g) x.page) l ≡ true
   unfolding all
   more f g [] u = refl
   more f g (x ∷ l) u = and_both _ _ (still f g x.page (and_left (not_lower f x.page) _ u)) (more f g l (and_right (not_lower f x.page) _ u))
 
-  known_still : (s : List ℕ) (f g : Found) → Known P m s f → Known P m s (lower f g)
+  known_still : (s : List ℕ) (f g : Option Way) → Known P m s f → Known P m s (lower f g)
   known_still s f g k q e = more f g (select P (table_names m q)) (k q e)
 
   -- ---- one list of ways after another
 
-  pub searched_by : (f g : Found) (s : List ℕ) (l : List Way) → Known P m s f → g ≡ lower f (sought P l) → Searched P m f s g s l
+  pub searched_by : (f g : Option Way) (s : List ℕ) (l : List Way) → Known P m s f → g ≡ lower f (sought P l) → Searched P m f s g s l
   searched_by f g s l k e = record { best = e; long = refl; known = subst (Known P m s) (sym e) (known_still s f (sought P l) k) }
 
-  pub searched_none : (f : Found) (s : List ℕ) → Known P m s f → Searched P m f s f s []
+  pub searched_none : (f : Option Way) (s : List ℕ) → Known P m s f → Searched P m f s f s []
   searched_none f s k = searched_by f f s [] k (sym (ap (lower f) (sought_none P) ∙ lower_none f))
 
-  pub searched_then : {f g h : Found} {s e d : List ℕ} {l r : List Way} → Searched P m f s g e l → Searched P m g e h d r → Searched P m f s h d (l ++ r)
+  pub searched_then : {f g h : Option Way} {s e d : List ℕ} {l r : List Way} → Searched P m f s g e l → Searched P m g e h d r → Searched P m f s h d (l ++ r)
   searched_then {f} {g} {h} {s} {e} {d} {l} {r} A B =
       record {
-        best = B.best ∙ ap (λ (z : Found). lower z (sought P r)) A.best ∙ lower_assoc f (sought P l) (sought P r) ∙ ap (lower f) (sym (sought_append P l r));
+        best = B.best ∙ ap (λ (z : Option Way). lower z (sought P r)) A.best ∙ lower_assoc f (sought P l) (sought P r) ∙ ap (lower f) (sym (sought_append P l r));
         long = B.long ∙ A.long;
         known = B.known;
       }
 
   -- a table gone through before
-  pub searched_before : (f : Found) (s : List ℕ) (w : Way) → Known P m s f → w.names.level ≡ 1 → get_or s (page w % 2 ^ 20) 0 ≡ 1 → Searched P m f s f s (next_ways m w)
+  pub searched_before : (f : Option Way) (s : List ℕ) (w : Way) → Known P m s f → w.names.level ≡ 1 → get_or s (page w % 2 ^ 20) 0 ≡ 1 → Searched P m f s f s (next_ways m w)
   unfolding sought
   searched_before f s w k h e = searched_by f f s (next_ways m w) k (sym (quiet_none f (passing (next_ways m w)) (by_names f w h ∙ k (page w % 2 ^ 20) e)))
 
   -- and one that is gone through now
-  pub searched_now : (f g : Found) (s : List ℕ) (w : Way) → Known P m s f → w.names.level ≡ 1 → g ≡ lower f (sought P (next_ways m w)) → Searched P m f s g (set s (page w % 2 ^ 20) 1) (next_ways m w)
+  pub searched_now : (f g : Option Way) (s : List ℕ) (w : Way) → Known P m s f → w.names.level ≡ 1 → g ≡ lower f (sought P (next_ways m w)) → Searched P m f s g (set s (page w % 2 ^ 20) 1) (next_ways m w)
   unfolding sought
   searched_now f g s w k h e =
       record {
         best = e;
         long = length-set s (page w % 2 ^ 20) 1;
-        known = λ q u. either (ℕ_discrete q (page w % 2 ^ 20)) (λ z. rw z (sym (by_names g w h) ∙ subst (λ (o : Found). all (λ v. not_lower o (page v)) (passing (next_ways m w)) ≡ true) (sym e) (lowest_all f (passing (next_ways m w))))) (λ d. subst (Known P m s) (sym e) (known_still s f (sought P (next_ways m w)) k) q (sym (get_or-set_other s (page w % 2 ^ 20) q 1 0 d) ∙ u));
+        known = λ q u. either (ℕ_discrete q (page w % 2 ^ 20)) (λ z. rw z (sym (by_names g w h) ∙ subst (λ (o : Option Way). all (λ v. not_lower o (page v)) (passing (next_ways m w)) ≡ true) (sym e) (lowest_all f (passing (next_ways m w))))) (λ d. subst (Known P m s) (sym e) (known_still s f (sought P (next_ways m w)) k) q (sym (get_or-set_other s (page w % 2 ^ 20) q 1 0 d) ∙ u));
       }
 
   -- nothing lower can be found
-  pub searched_low : (low : ℕ) → ((x : Named) → P x ≡ true → low ≤ x.page) → (f : Found) (s : List ℕ) (l : List Way) (b : Bool) → Known P m s f → b ≡ is_lowest f low → b ≡ true → Searched P m f s f s l
+  pub searched_low : (low : ℕ) → ((x : Named) → P x ≡ true → low ≤ x.page) → (f : Option Way) (s : List ℕ) (l : List Way) (b : Bool) → Known P m s f → b ≡ is_lowest f low → b ≡ true → Searched P m f s f s l
   unfolding sought
   searched_low low h f s l b k e t = searched_by f f s l k (sym (quiet_none f (passing l) (none_lower f l (sym e ∙ t))))
     where
-      below : (g : Found) (w : Way) → is_lowest g low ≡ true → P w.names ≡ true → not_lower g (page w) ≡ true
-      below Nothing w u v = absurd (false≢true u)
-      below (Lowest o) w u v = let i = leb-true (page o) low u in let j = h w.names v in rw (le-ltb (page w) (page o) (omega arith)) refl
+      below : (g : Option Way) (w : Way) → is_lowest g low ≡ true → P w.names ≡ true → not_lower g (page w) ≡ true
+      below None w u v = absurd (false≢true u)
+      below (Some o) w u v = let i = leb-true (page o) low u in let j = h w.names v in rw (le-ltb (page w) (page o) (omega arith)) refl
 
-      none_lower : (g : Found) (r : List Way) → is_lowest g low ≡ true → all (λ w. not_lower g (page w)) (passing r) ≡ true
+      none_lower : (g : Option Way) (r : List Way) → is_lowest g low ≡ true → all (λ w. not_lower g (page w)) (passing r) ≡ true
       none_lower g r u = all_passing (λ w. P w.names) (λ w. not_lower g (page w)) r (λ w v. below g w u v)
 
 -- ---- a loop from 0
@@ -334,10 +329,10 @@ abbrev pub on_entry : List ℕ → Way → ℕ → List Way
 on_entry m w i = through_entry m w i (entry_at m (ptea_at (page w) i))
 
 module _ (m : List ℕ) (n : ℕ) (long : length m ≡ 4096 * n) (few : n ≤ 4096) where
-  read_entry : (p i : ℕ) → p % 2 ^ 20 < n → i < 1024 → entry_at m (ptea_at p i) ≡ Word (bytes_at 4 m (4096 * (p % 2 ^ 20) + 4 * i))
+  read_entry : (p i : ℕ) → p % 2 ^ 20 < n → i < 1024 → entry_at m (ptea_at p i) ≡ Some (bytes_at 4 m (4096 * (p % 2 ^ 20) + 4 * i))
   read_entry p i low h = ap (entry_at m) (low_page p i) ∙ entry_at_lem m n (p % 2 ^ 20) i long few low h
 
-  no_entry : (p i : ℕ) → n ≤ p % 2 ^ 20 → i < 1024 → entry_at m (ptea_at p i) ≡ Missing
+  no_entry : (p i : ℕ) → n ≤ p % 2 ^ 20 → i < 1024 → entry_at m (ptea_at p i) ≡ None
   unfolding entry_at
   no_entry p i far h =
       let a : ptea_at p i ≡ 4096 * (p % 2 ^ 20) + 4 * i = omega arith in
@@ -347,40 +342,40 @@ module _ (m : List ℕ) (n : ℕ) (long : length m ≡ 4096 * n) (few : n ≤ 40
   pub next_none : (w : Way) → n ≤ page w % 2 ^ 20 → next_ways m w ≡ []
   unfolding next_ways
   next_none w far =
-      flat_map_where (entry_ways m w) (λ i. []) (range 1024) (λ i h. ap (λ (e : Entry). map (further w i) (entry_named w.names e)) (no_entry (page w) i far (range_in 1024 i h)))
+      flat_map_where (entry_ways m w) (λ i. []) (range 1024) (λ i h. ap (λ (e : Option ℕ). map (further w i) (entry_named w.names e)) (no_entry (page w) i far (range_in 1024 i h)))
       ∙ flat_map_none (λ (i : ℕ). []) (range 1024) (λ i. refl)
 
-  module _ (P : Named → Bool) (f : Found) (w : Way) (low : page w % 2 ^ 20 < n) where
+  module _ (P : Named → Bool) (f : Option Way) (w : Way) (low : page w % 2 ^ 20 < n) where
     pub scan_start : f ≡ lower f (sought P (flat_map (entry_ways m w) (range 0)))
     unfolding range flat_map
     scan_start = sym (ap (lower f) (sought_none P) ∙ lower_none f)
 
-    pub scan_next : (g h : Found) (i e : ℕ) → i < 1024 → e ≡ bytes_at 4 m (4096 * (page w % 2 ^ 20) + 4 * i) → g ≡ lower f (sought P (flat_map (entry_ways m w) (range i)))
-        → h ≡ lower g (sought P (map (further w i) (entry_named w.names (Word e)))) → h ≡ lower f (sought P (flat_map (entry_ways m w) (range (i + 1))))
+    pub scan_next : (g h : Option Way) (i e : ℕ) → i < 1024 → e ≡ bytes_at 4 m (4096 * (page w % 2 ^ 20) + 4 * i) → g ≡ lower f (sought P (flat_map (entry_ways m w) (range i)))
+        → h ≡ lower g (sought P (map (further w i) (entry_named w.names (Some e)))) → h ≡ lower f (sought P (flat_map (entry_ways m w) (range (i + 1))))
     scan_next g h i e lt r A B =
         B
-        ∙ ap (λ (z : Entry). lower g (sought P (map (further w i) (entry_named w.names z)))) (ap Word r ∙ sym (read_entry (page w) i low lt))
-        ∙ ap (λ (z : Found). lower z (sought P (entry_ways m w i))) A
+        ∙ ap (λ (z : Option ℕ). lower g (sought P (map (further w i) (entry_named w.names z)))) (ap Some r ∙ sym (read_entry (page w) i low lt))
+        ∙ ap (λ (z : Option Way). lower z (sought P (entry_ways m w i))) A
         ∙ lower_assoc f (sought P (flat_map (entry_ways m w) (range i))) (sought P (entry_ways m w i))
         ∙ ap (lower f) (sym (sought_append P (flat_map (entry_ways m w) (range i)) (entry_ways m w i)) ∙ ap (sought P) (sym (ways_next (entry_ways m w) i)))
 
-    pub scan_end : (g : Found) (i : ℕ) → i ≡ 1024 → g ≡ lower f (sought P (flat_map (entry_ways m w) (range i))) → g ≡ lower f (sought P (next_ways m w))
+    pub scan_end : (g : Option Way) (i : ℕ) → i ≡ 1024 → g ≡ lower f (sought P (flat_map (entry_ways m w) (range i))) → g ≡ lower f (sought P (next_ways m w))
     unfolding next_ways
     scan_end g i e A = A ∙ ap (λ (z : ℕ). lower f (sought P (flat_map (entry_ways m w) (range z)))) e
 
   -- the same for a first-level table, with the ways that go on
-  module _ (P : Named → Bool) (f : Found) (s : List ℕ) (w : Way) (low : page w % 2 ^ 20 < n) where
+  module _ (P : Named → Bool) (f : Option Way) (s : List ℕ) (w : Way) (low : page w % 2 ^ 20 < n) where
     pub entries_start : Known P m s f → Searched P m f s f s (flat_map (on_entry m w) (range 0))
     unfolding range flat_map
     entries_start k = searched_none P m f s k
 
-    pub entries_next : (g h : Found) (e d : List ℕ) (i v : ℕ) → i < 1024 → v ≡ bytes_at 4 m (4096 * (page w % 2 ^ 20) + 4 * i) → Searched P m f s g e (flat_map (on_entry m w) (range i))
-        → Searched P m g e h d (through_entry m w i (Word v)) → Searched P m f s h d (flat_map (on_entry m w) (range (i + 1)))
+    pub entries_next : (g h : Option Way) (e d : List ℕ) (i v : ℕ) → i < 1024 → v ≡ bytes_at 4 m (4096 * (page w % 2 ^ 20) + 4 * i) → Searched P m f s g e (flat_map (on_entry m w) (range i))
+        → Searched P m g e h d (through_entry m w i (Some v)) → Searched P m f s h d (flat_map (on_entry m w) (range (i + 1)))
     entries_next g h e d i v lt r A B =
         subst (Searched P m f s h d) (sym (ways_next (on_entry m w) i))
-        (searched_then P m A (subst (λ (z : Entry). Searched P m g e h d (through_entry m w i z)) (ap Word r ∙ sym (read_entry (page w) i low lt)) B))
+        (searched_then P m A (subst (λ (z : Option ℕ). Searched P m g e h d (through_entry m w i z)) (ap Some r ∙ sym (read_entry (page w) i low lt)) B))
 
-    pub entries_end : (g : Found) (e : List ℕ) (i : ℕ) → i ≡ 1024 → Searched P m f s g e (flat_map (on_entry m w) (range i)) → Searched P m f s g e (flat_map (onward m 1) (next_ways m w))
+    pub entries_end : (g : Option Way) (e : List ℕ) (i : ℕ) → i ≡ 1024 → Searched P m f s g e (flat_map (on_entry m w) (range i)) → Searched P m f s g e (flat_map (onward m 1) (next_ways m w))
     unfolding next_ways through_entry
     entries_end g e i z A = subst (Searched P m f s g e) (ap (λ (o : ℕ). flat_map (on_entry m w) (range o)) z ∙ sym (flat_flat (onward m 1) (entry_ways m w) (range 1024))) A
 
@@ -403,14 +398,14 @@ pub onward_none : (m : List ℕ) (w : Way) → next_ways m w ≡ [] → onward m
 unfolding onward flat_map
 onward_none m w e = ap (λ (z : List Way). w ∷ flat_map (onward m 1) z) e
 
-pub through_there : (m : List ℕ) (w v : Way) (i e : ℕ) (x : Named) (t : Bool) → t ≡ pte_p e → t ≡ true → x ≡ naming (w.names.level - 1) (pte_ba e) (grants_write (pte_r e)) → v ≡ further w i x → onward m 1 v ≡ through_entry m w i (Word e)
+pub through_there : (m : List ℕ) (w v : Way) (i e : ℕ) (x : Named) (t : Bool) → t ≡ pte_p e → t ≡ true → x ≡ naming (w.names.level - 1) (pte_ba e) (grants_write (pte_r e)) → v ≡ further w i x → onward m 1 v ≡ through_entry m w i (Some e)
 unfolding through_entry
 through_there m w v i e x t p q z y = ap (onward m 1) y ∙ sym (flat_map_one (onward m 1) (further w i x)) ∙ ap (λ (l : List Way). flat_map (onward m 1) l) (sym (there p q z))
   where
-    there : t ≡ pte_p e → t ≡ true → x ≡ naming (w.names.level - 1) (pte_ba e) (grants_write (pte_r e)) → map (further w i) (entry_named w.names (Word e)) ≡ further w i x ∷ []
+    there : t ≡ pte_p e → t ≡ true → x ≡ naming (w.names.level - 1) (pte_ba e) (grants_write (pte_r e)) → map (further w i) (entry_named w.names (Some e)) ≡ further w i x ∷ []
     there p q z = let h : pte_p e ≡ true = sym p ∙ q in rw (h, z) refl
 
-pub through_absent : (m : List ℕ) (w : Way) (i e : ℕ) (t : Bool) → t ≡ pte_p e → t ≡ false → [] ≡ through_entry m w i (Word e)
+pub through_absent : (m : List ℕ) (w : Way) (i e : ℕ) (t : Bool) → t ≡ pte_p e → t ≡ false → [] ≡ through_entry m w i (Some e)
 unfolding through_entry flat_map
 through_absent m w i e t p q = let h : pte_p e ≡ false = sym p ∙ q in rw h refl
 

@@ -1,13 +1,12 @@
--- Ways: how a core names a page (01, 'Reach'). A way begins at the page in pto, at a walk or at a pending store, and goes through present entries.
+-- Ways: how a core names a page (01, 'Reach'). A way begins at the page in pto, at a walk or at a pending store, and
+-- goes through present entries.
 -- Assumes nothing.
-use Rattle.std.specs.Prelude.{if◌then◌else◌, ◌≡◌, Bool, false, true, ℕ, zero, suc, ◌+◌, ◌-◌, ◌/◌, ◌%◌, eqb, ltb}
+use Rattle.std.specs.Prelude.{if◌then◌else◌, ◌≡◌, Bool, false, true, ℕ, zero, suc, ◌+◌, ◌-◌, ◌/◌, ◌%◌, eqb, ltb, Option, Some, None}
 use mathlib.Core.List.{List, [], ◌∷◌, ◌++◌, map, flat_map}
 use Rattle.layout.specs.Blocks.{block}
 use Rattle.records.specs.declared.Store.{Store}
 use Rattle.records.specs.declared.Walk.{Walk}
 use Rattle.records.specs.Records.{store_in, walk_in, store_numbers, walk_numbers}
-use Rattle.tlb.specs.declared.Entry.{Entry}
-use Rattle.tlb.specs.declared.Entry.TheVariants.{Word, Missing}
 use Rattle.tlb.specs.Walks.{walk_level, walk_r, walk_ba, base_address, entry_at, ptea_at, pte_p, pte_r, pte_ba}
 use Rattle.tlb.specs.Steps.{origin_of}
 use Rattle.reach.specs.Lists.{range, has}
@@ -16,8 +15,7 @@ use Rattle.ways.specs.declared.Named.{Named}
 use Rattle.ways.specs.declared.Root.{Root}
 use Rattle.ways.specs.declared.Root.TheVariants.{AtOrigin, AtWalk, AtStore}
 use Rattle.ways.specs.declared.Way.{Way}
-use Rattle.ways.specs.declared.Found.{Found}
-use Rattle.ways.specs.declared.Found.TheVariants.{Nothing, Lowest}
+use Rattle.std.specs.Prelude.{Option, None, Some}
 
 abbrev pub naming : ℕ → ℕ → Bool → Named
 naming l p w = record { level = l; page = p; write = w }
@@ -46,9 +44,9 @@ is_root b (AtWalk n) = has n (walk_numbers b)
 is_root b (AtStore n) = has n (store_numbers b)
 
 -- what an entry of a table names, which is itself named x
-abbrev pub entry_named : Named → Entry → List Named
-entry_named x (Word e) = if pte_p e then naming (x.level - 1) (pte_ba e) (grants_write (pte_r e)) ∷ [] else []
-entry_named x Missing = []
+abbrev pub entry_named : Named → Option ℕ → List Named
+entry_named x (Some e) = if pte_p e then naming (x.level - 1) (pte_ba e) (grants_write (pte_r e)) ∷ [] else []
+entry_named x None = []
 
 -- entry i of the table
 abbrev pub next_named : List ℕ → Named → ℕ → List Named
@@ -117,14 +115,14 @@ ways cs t m = flat_map (core_ways t m) cs
 abbrev pub page : Way → ℕ
 page w = w.names.page
 
-unfoldable pub lower : Found → Found → Found
-lower Nothing b = b
-lower (Lowest v) Nothing = Lowest v
-lower (Lowest v) (Lowest w) = if ltb (page w) (page v) then Lowest w else Lowest v
+unfoldable pub lower : Option Way → Option Way → Option Way
+lower None b = b
+lower (Some v) None = Some v
+lower (Some v) (Some w) = if ltb (page w) (page v) then Some w else Some v
 
-unfoldable pub lowest_way : List Way → Found
-lowest_way [] = Nothing
-lowest_way (w ∷ l) = lower (Lowest w) (lowest_way l)
+unfoldable pub lowest_way : List Way → Option Way
+lowest_way [] = None
+lowest_way (w ∷ l) = lower (Some w) (lowest_way l)
 
 -- ---- every way is real (`ways_real` of proofs/Real)
 

@@ -1,81 +1,59 @@
 // The way to the lowest page that is looked for, through the entries of tables (specs/inner/Search.antt).
 // A second-level table is gone through once, however many ways lead to it.
-ghost use Rattle.std.specs.Prelude.{◌≡◌, ◌+◌, ◌-◌, ◌*◌, ◌%◌, ◌^◌, ◌<◌, ◌≤◌, length};
+ghost use Rattle.std.specs.Prelude.{◌≡◌, ◌+◌, ◌-◌, ◌*◌, ◌%◌, ◌^◌, ◌<◌, ◌≤◌, length, Some};
 ghost use mathlib.Core.List.{[], ◌∷◌, flat_map};
-ghost use Rattle.tlb.specs.declared.Entry.{Entry};
 ghost use Rattle.tlb.specs.Walks.{pte_r, pte_ba};
 ghost use Rattle.reach.specs.Reach.{grants_write};
 ghost use Rattle.ways.specs.Ways as ways;
 ghost use Rattle.ways.specs.inner.Search as search;
 
-use super::{Found, Named, Way};
-
-// What is looked for: pages from `low` on that are beyond memory (kind 0), or that the map marks, by a way that grants
-// write (kind 1), by a way that grants write or comes to a table (else); or the page `low` itself, by any way (kind 3).
-#[derive(Clone, Copy)]
-pub struct Want {
-    pub kind: u32,
-    pub low: u32,
-}
+use super::query::Query;
+use super::want::Want;
+use super::{Named, Way};
+use layout::MOST_PAGES;
 
 // Whether a page is looked for, by what names it.
-fn is_wanted(want: Want, pages: u32, map: &[u8], names: Named) -> bool
-    requires { length map.now ≡ pages }
-    ensures { result ≡ search.wanted want pages map.now names }
+fn is_wanted(query: &Query, names: Named) -> bool
+    ensures { result ≡ search.looked_for query.now names }
 {
     let page = names.page;
-    let kind = want.kind;
-    if page < want.low {
-        return false;
-    }
-    if kind == 0 {
-        return pages <= page;
-    }
-    if kind == 3 {
-        return page == want.low;
-    }
-    if page < pages {
-        let at = page as usize;
-        let b = map[at];
-        if kind == 1 {
-            return (names.level == 0) & names.write & (b == 1);
+    match query.want {
+        Want::Beyond => query.pages <= page,
+        Want::Marked(fault, low) => {
+            if page < low {
+                return false;
+            }
+            if query.pages <= page {
+                return false;
+            }
+            fault.shows(names) & (query.map[page as usize] == 1)
         }
-        return ((names.level != 0) | names.write) & (b == 1);
+        Want::Page(wanted) => page == wanted,
     }
-    false
 }
 
 // Whether nothing lower can be found.
-fn is_lowest(best: Found, low: u32) -> bool
+fn is_lowest(best: Option<Way>, low: u32) -> bool
     ensures { result ≡ search.is_lowest best low }
 {
-    match best {
-        Found::Nothing => false,
-        Found::Lowest(way) => way.names.page <= low,
-    }
+    best.is_some_and(|way| way.names.page <= low)
 }
 
 // A way where it is lower than the best so far.
-fn lower(best: Found, way: Way) -> Found
-    ensures { result ≡ ways.lower best (Found.Lowest way) }
+fn lower(best: Option<Way>, way: Way) -> Option<Way>
+    ensures { result ≡ ways.lower best (Some way) }
 {
     match best {
-        Found::Nothing => Found::Lowest(way),
-        Found::Lowest(v) => {
-            if way.names.page < v.names.page {
-                return Found::Lowest(way);
-            }
-            best
-        }
+        Some(v) if v.names.page <= way.names.page => best,
+        _ => Some(way),
     }
 }
 
 // The same where it is looked for.
-fn take(want: Want, pages: u32, map: &[u8], way: Way, best: Found) -> Found
-    requires { length map.now ≡ pages }
-    ensures { result ≡ ways.lower best (search.sought (search.wanted want pages map.now) (way ∷ [])) }
+fn take(query: &Query, way: Way, best: Option<Way>) -> Option<Way>
+    ensures { result ≡ ways.lower best (search.sought (search.looked_for query.now) (way ∷ [])) }
 {
-    if is_wanted(want, pages, map, way.names) {
+    if is_wanted(query, way.names) {
         return lower(best, way);
     }
     best
@@ -121,190 +99,156 @@ fn further(way: Way, i: u32, names: Named) -> Way
 }
 
 // Whether an entry of a table of this level names a page that is looked for.
-fn is_hit(want: Want, pages: u32, map: &[u8], level: u32, e: u32) -> bool
-    requires { (length map.now ≡ pages) × (1 ≤ level) }
-    ensures { result ≡ search.hits (search.wanted want pages map.now) level e }
+fn is_hit(query: &Query, level: u32, e: u32) -> bool
+    requires { 1 ≤ level }
+    ensures { result ≡ search.hits (search.looked_for query.now) level e }
 {
     if tlb::present(e) {
-        return is_wanted(want, pages, map, named(level, e));
+        return is_wanted(query, named(level, e));
     }
     false
 }
 
 // The way that goes on by entry i, whose word is e.
-fn take_entry(way: Way, i: u32, e: u32, best: Found) -> Found
+fn take_entry(way: Way, i: u32, e: u32, best: Option<Way>) -> Option<Way>
     requires { (way.entries < 2) × (1 ≤ way.names.level) × (i < 1024) }
-    ensures { result ≡ ways.lower best (Found.Lowest (ways.further way i (ways.naming (way.names.level - 1) (pte_ba e) (grants_write (pte_r e))))) }
+    ensures { result ≡ ways.lower best (Some (ways.further way i (ways.naming (way.names.level - 1) (pte_ba e) (grants_write (pte_r e))))) }
 {
     lower(best, further(way, i, named(way.names.level, e)))
 }
 
 // The ways that go on by one entry of a table. (An entry that is not looked for costs no copy of a way.)
-fn scan(m: &[u8], want: Want, pages: u32, map: &[u8], way: Way, best: Found) -> Found
-    requires m_len { (length m.now ≡ 4096 * pages) × (pages ≤ 4096) × (length map.now ≡ pages) }
-    requires page_bound { (way.names.page % 2 ^ 20 < pages) × (way.entries < 2) × (1 ≤ way.names.level) }
-    ensures { result ≡ ways.lower best (search.sought (search.wanted want pages map.now) (ways.next_ways m.now way)) }
+fn scan(query: &Query, way: Way, best: Option<Way>) -> Option<Way>
+    requires { (way.names.page % 2 ^ 20 < query.now.pages) × (way.entries < 2) × (1 ≤ way.names.level) }
+    ensures { result ≡ ways.lower best (search.sought (search.looked_for query.now) (ways.next_ways query.now.machine.memory.now way)) }
 {
     let start = 4096 * ((way.names.page % 0x100000) as usize);
     let level = way.names.level;
     let mut found = best;
-    let mut i: u32 = 0;
-    while i < 1024 {
-        let e = word::read_word(m, start + 4 * (i as usize));
-        if is_hit(want, pages, map, level, e) {
+    for i in 0..1024u32 {
+        let e = word::read_word(query.machine.memory, start + 4 * (i as usize));
+        if is_hit(query, level, e) {
             found = take_entry(way, i, e, found);
         }
-        i += 1;
     }
     found
 }
 
 // The same for a second-level table, unless it was gone through before.
-fn scan_once(
-    m: &[u8],
-    want: Want,
-    pages: u32,
-    map: &[u8],
-    way: Way,
-    best: Found,
-    seen: &mut [u8],
-) -> Found
-    requires m_len { (length m.now ≡ 4096 * pages) × (pages ≤ 4096) × (length map.now ≡ pages) × (length seen.old ≡ 4096) }
+fn scan_once(query: &Query, way: Way, best: Option<Way>, seen: &mut [u8; MOST_PAGES]) -> Option<Way>
     requires entries_bound { (way.entries < 2) × (way.names.level ≡ 1) }
-    requires known { search.Known (search.wanted want pages map.now) m.now seen.old best }
-    ensures { search.Searched (search.wanted want pages map.now) m.now best seen.old result seen.new (ways.next_ways m.now way) }
+    requires known { search.Known (search.looked_for query.now) query.now.machine.memory.now seen.old best }
+    ensures { search.Searched (search.looked_for query.now) query.now.machine.memory.now best seen.old result seen.new (ways.next_ways query.now.machine.memory.now way) }
 {
-    if is_lowest(best, want.low) {
+    if is_lowest(best, query.want.low()) {
         return best;
     }
     let page = way.names.page % 0x100000;
-    if page < pages {
+    if page < query.pages {
         let at = page as usize;
         if seen[at] == 1 {
             return best;
         }
         seen[at] = 1;
-        return scan(m, want, pages, map, way, best);
+        return scan(query, way, best);
     }
     best
 }
 
 // A way to a second-level table, and those that go on from it.
 fn from_second(
-    m: &[u8],
-    want: Want,
-    pages: u32,
-    map: &[u8],
+    query: &Query,
     way: Way,
-    best: Found,
-    seen: &mut [u8],
-) -> Found
-    requires m_len { (length m.now ≡ 4096 * pages) × (pages ≤ 4096) × (length map.now ≡ pages) × (length seen.old ≡ 4096) }
+    best: Option<Way>,
+    seen: &mut [u8; MOST_PAGES],
+) -> Option<Way>
     requires entries_bound { (way.entries < 2) × (way.names.level ≡ 1) }
-    requires known { search.Known (search.wanted want pages map.now) m.now seen.old best }
-    ensures { search.Searched (search.wanted want pages map.now) m.now best seen.old result seen.new (ways.onward m.now 1 way) }
+    requires known { search.Known (search.looked_for query.now) query.now.machine.memory.now seen.old best }
+    ensures { search.Searched (search.looked_for query.now) query.now.machine.memory.now best seen.old result seen.new (ways.onward query.now.machine.memory.now 1 way) }
 {
-    let found = take(want, pages, map, way, best);
-    scan_once(m, want, pages, map, way, found, seen)
+    let found = take(query, way, best);
+    scan_once(query, way, found, seen)
 }
 
 // The ways that go on by entry i of a first-level table, whose word is e.
 fn from_entry(
-    m: &[u8],
-    want: Want,
-    pages: u32,
-    map: &[u8],
+    query: &Query,
     way: Way,
     i: u32,
     e: u32,
-    best: Found,
-    seen: &mut [u8],
-) -> Found
-    requires m_len { (length m.now ≡ 4096 * pages) × (pages ≤ 4096) × (length map.now ≡ pages) × (length seen.old ≡ 4096) }
+    best: Option<Way>,
+    seen: &mut [u8; MOST_PAGES],
+) -> Option<Way>
     requires entries_value { (way.entries ≡ 0) × (way.names.level ≡ 2) × (i < 1024) }
-    requires known { search.Known (search.wanted want pages map.now) m.now seen.old best }
-    ensures { search.Searched (search.wanted want pages map.now) m.now best seen.old result seen.new (search.through_entry m.now way i (Entry.Word e)) }
+    requires known { search.Known (search.looked_for query.now) query.now.machine.memory.now seen.old best }
+    ensures { search.Searched (search.looked_for query.now) query.now.machine.memory.now best seen.old result seen.new (search.through_entry query.now.machine.memory.now way i (Some e)) }
 {
     if tlb::present(e) {
         let names = named(way.names.level, e);
         let on = further(way, i, names);
-        return from_second(m, want, pages, map, on, best, seen);
+        return from_second(query, on, best, seen);
     }
     best
 }
 
 // The ways that go on from a first-level table.
 fn from_entries(
-    m: &[u8],
-    want: Want,
-    pages: u32,
-    map: &[u8],
+    query: &Query,
     way: Way,
-    best: Found,
-    seen: &mut [u8],
-) -> Found
-    requires m_len { (length m.now ≡ 4096 * pages) × (pages ≤ 4096) × (length map.now ≡ pages) × (length seen.old ≡ 4096) }
-    requires page_bound { (way.names.page % 2 ^ 20 < pages) × (way.entries ≡ 0) × (way.names.level ≡ 2) }
-    requires known { search.Known (search.wanted want pages map.now) m.now seen.old best }
-    ensures { search.Searched (search.wanted want pages map.now) m.now best seen.old result seen.new (flat_map (ways.onward m.now 1) (ways.next_ways m.now way)) }
+    best: Option<Way>,
+    seen: &mut [u8; MOST_PAGES],
+) -> Option<Way>
+    requires page_bound { (way.names.page % 2 ^ 20 < query.now.pages) × (way.entries ≡ 0) × (way.names.level ≡ 2) }
+    requires known { search.Known (search.looked_for query.now) query.now.machine.memory.now seen.old best }
+    ensures { search.Searched (search.looked_for query.now) query.now.machine.memory.now best seen.old result seen.new (flat_map (ways.onward query.now.machine.memory.now 1) (ways.next_ways query.now.machine.memory.now way)) }
 {
     let start = 4096 * ((way.names.page % 0x100000) as usize);
     let mut found = best;
-    let mut i: u32 = 0;
-    while i < 1024 {
-        let e = word::read_word(m, start + 4 * (i as usize));
-        found = from_entry(m, want, pages, map, way, i, e, found, seen);
-        i += 1;
+    for i in 0..1024u32 {
+        let e = word::read_word(query.machine.memory, start + 4 * (i as usize));
+        found = from_entry(query, way, i, e, found, seen);
     }
     found
 }
 
 // A way to a first-level table, and those that go on from it.
 fn from_first(
-    m: &[u8],
-    want: Want,
-    pages: u32,
-    map: &[u8],
+    query: &Query,
     way: Way,
-    best: Found,
-    seen: &mut [u8],
-) -> Found
-    requires m_len { (length m.now ≡ 4096 * pages) × (pages ≤ 4096) × (length map.now ≡ pages) × (length seen.old ≡ 4096) }
+    best: Option<Way>,
+    seen: &mut [u8; MOST_PAGES],
+) -> Option<Way>
     requires entries_value { (way.entries ≡ 0) × (way.names.level ≡ 2) }
-    requires known { search.Known (search.wanted want pages map.now) m.now seen.old best }
-    ensures { search.Searched (search.wanted want pages map.now) m.now best seen.old result seen.new (ways.onward m.now 2 way) }
+    requires known { search.Known (search.looked_for query.now) query.now.machine.memory.now seen.old best }
+    ensures { search.Searched (search.looked_for query.now) query.now.machine.memory.now best seen.old result seen.new (ways.onward query.now.machine.memory.now 2 way) }
 {
-    let found = take(want, pages, map, way, best);
-    if way.names.page % 0x100000 < pages {
-        return from_entries(m, want, pages, map, way, found, seen);
+    let found = take(query, way, best);
+    if way.names.page % 0x100000 < query.pages {
+        return from_entries(query, way, found, seen);
     }
     found
 }
 
 // A way that ends where it begins, and all that go on from it.
 pub(crate) fn from_root(
-    m: &[u8],
-    want: Want,
-    pages: u32,
-    map: &[u8],
+    query: &Query,
     way: Way,
-    best: Found,
-    seen: &mut [u8],
-) -> Found
-    requires m_len { (length m.now ≡ 4096 * pages) × (pages ≤ 4096) × (length map.now ≡ pages) × (length seen.old ≡ 4096) }
+    best: Option<Way>,
+    seen: &mut [u8; MOST_PAGES],
+) -> Option<Way>
     requires entries_value { way.entries ≡ 0 }
-    requires known { search.Known (search.wanted want pages map.now) m.now seen.old best }
-    ensures { search.Searched (search.wanted want pages map.now) m.now best seen.old result seen.new (ways.all_from m.now way) }
+    requires known { search.Known (search.looked_for query.now) query.now.machine.memory.now seen.old best }
+    ensures { search.Searched (search.looked_for query.now) query.now.machine.memory.now best seen.old result seen.new (ways.all_from query.now.machine.memory.now way) }
 {
     let level = way.names.level;
     if level == 0 {
-        return take(want, pages, map, way, best);
+        return take(query, way, best);
     }
     if level == 1 {
-        return from_second(m, want, pages, map, way, best, seen);
+        return from_second(query, way, best, seen);
     }
     if level == 2 {
-        return from_first(m, want, pages, map, way, best, seen);
+        return from_first(query, way, best, seen);
     }
     best
 }

@@ -1,4 +1,5 @@
--- Bits of a word. Of a bit put into a word: that bit is the one put, every other bit is as before, and the word stays a word.
+-- Bits of a word. Of a bit put into a word: that bit is the one put, every other bit is as before, and the word stays a
+-- word.
 -- Assumes nothing.
 use Rattle.std.proofs.Common.{◌≡◌, ℕ, zero, suc, ◌+◌, ◌-◌, ◌*◌, ◌/◌, ◌%◌, ◌^◌, ◌<◌, Bool, true, false, not, eqb, sym, refl, ap, ◌∙◌, subst, ap₂, ⊎_elim, mod-lt, mul_assoc, mul_comm, one-mul, pow-suc, arith, pow_pos, pow-add, shl_exact, shr-shr, shr_lt, eqb-true}
 use native.Mathlib.Nat.{mul-add-div_right, div-eq_of_lt}
@@ -111,7 +112,8 @@ same_bits (suc n) a b p q f =
     let l : bit a 0 ≡ bit b 0 = f 0 (omega arith) in
     omega arith
 
--- ---- the zeros below the lowest bit that is set, at every width: no bit below their number is set, and in a word that is not zero the bit of that number is
+-- ---- the zeros below the lowest bit that is set, at every width: no bit below their number is set, and in a word that
+-- is not zero the bit of that number is
 
 pub zeros_clear : (n w k : ℕ) → k < count_trailing_zeros n w → bit w k ≡ 1 → ⊥
 unfolding count_trailing_zeros

@@ -1,6 +1,7 @@
--- What the functions of this crate ask: a core's step of its block and memory, and a plan of a place in the block's records, of a port and of bytes in
--- memory. It serves contracts inside alone: `core_plan_lem` of proofs/Executions and `create_plan`,
--- `extend_plan`, `accessed_plan` and `drain_plan` of proofs/Decisions say that every plan that is decided may be done.
+-- What the functions of this crate ask: a core's step of its block and memory, and a plan of a place in the block's
+-- records, of a port and of bytes in memory. It serves contracts inside alone: `core_plan_lem` of proofs/Executions and
+-- `create_plan`, `extend_plan`, `accessed_plan` and `drain_plan` of proofs/Decisions say that every plan that is
+-- decided may be done.
 -- Assumes nothing.
 use Rattle.std.specs.Prelude.{◌≡◌, Bool, true, ◌&&◌, ◌||◌, List, ℕ, ◌+◌, ◌%◌, leb, ltb, length}
 use Rattle.records.specs.Records.{stores, walks, among}

@@ -1,6 +1,6 @@
--- The forms that an instruction's effect and its events take, for the functions that make them. It serves contracts inside alone: `written` of
--- proofs/Effects ties an outcome to definition 49 in Core, and `events_by_lem` of proofs/Laws ties the events to those of Interrupts;
--- `completed` of proofs/Effects ties `entered` to definition 54.
+-- The forms that an instruction's effect and its events take, for the functions that make them. It serves contracts
+-- inside alone: `written` of proofs/Effects ties an outcome to definition 49 in Core, and `events_by_lem` of
+-- proofs/Laws ties the events to those of Interrupts; `completed` of proofs/Effects ties `entered` to definition 54.
 -- Assumes nothing.
 use Rattle.std.specs.Prelude.{if◌then◌else◌, Bool, true, false, not, ◌&&◌, ◌||◌, ℕ, ◌+◌, ◌*◌, ◌/◌, ◌%◌, ◌^◌, set}
 use Rattle.word.specs.Word.{is_set, plus, sxt, sll}

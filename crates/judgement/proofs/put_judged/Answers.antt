@@ -1,28 +1,18 @@
 -- `judgement::put_judged` meets its contract. Two arrays of 4,096 bytes have room for a map each.
 -- Assumes nothing.
-use mathlib.Core.Path.{sym}
-use native.Mathlib.Omega.{arith}
-use Rattle.tables.proofs.Lift.{header}
-use Rattle.separation.proofs.Deciding.{room}
+use mathlib.Core.Path.{ap, ◌∙◌}
+use mathlib.Core.List.{List, ◌++◌}
+use Prim.Native.Nat.{ℕ}
+use Rattle.judgement.specs.Report.{report_text}
 use Rattle.judgement.proofs.put_judged.Goals as goal
 
-pub bounds-t-1 : goal.bounds-t-1
-bounds-t-1 c = omega (arith, (header _ _ c.requires.0).long)
-
-pub overflow_cast-n : goal.overflow_cast-n
-overflow_cast-n c = record { fits = omega (arith, (header _ _ c.requires.0).few_pages) }
-
-pub slice_bounds-own-end : goal.slice_bounds-own-end
-slice_bounds-own-end c = omega (arith, (header _ _ c.requires.0).few_pages)
-
-pub slice_bounds-put_with_maps-end : goal.slice_bounds-put_with_maps-end
-slice_bounds-put_with_maps-end c = sym (room _ (header _ _ c.requires.0).few_pages)
-
-pub slice_bounds-other-end : goal.slice_bounds-other-end
-slice_bounds-other-end c = omega (arith, (header _ _ c.requires.0).few_pages)
-
-pub slice_bounds-put_with_maps-end-2 : goal.slice_bounds-put_with_maps-end-2
-slice_bounds-put_with_maps-end-2 c = sym (room _ (header _ _ c.requires.0).few_pages)
-
-pub put_with_maps-requires : goal.put_with_maps-requires
-put_with_maps-requires c = let h = header _ _ c.requires.0 in record { m_value = c.requires; own_len = (room _ h.few_pages, room _ h.few_pages) }
+pub returns-clause-text : goal.returns-clause-text
+returns-clause-text g c =
+    let a = c.args in
+    let S = c.new-sides.result in
+    let e = c.new-sides.ensures in
+    let words =
+    ap (λ (k : ℕ). report_text k S.machine.tables.now S.machine.memory.now) e.2
+    ∙ ap (λ (t : List ℕ). report_text a.group t S.machine.memory.now) e.0
+    ∙ ap (λ (m : List ℕ). report_text a.group a.machine.now.tables.now m) e.1 in
+    c.put_all.ensures.text ∙ ap (λ (l : List ℕ). a.text.now ++ l) words

@@ -1,12 +1,11 @@
 -- `judgement::put_reasons` meets its contract. The invariant: the lines put and those left are all of them.
 -- Assumes nothing.
+use mathlib.Core.Path.{◌≡◌}
+use mathlib.Core.List.{◌++◌}
 use Prim.Native.Nat.{◌+◌, ◌*◌, ◌-◌, ◌≤◌}
+use lib.ListN.{length}
 use Rattle.reason_lines.specs.Reasons.{reason_lines}
-use Rattle.judgement.specs.inner.Lines.{LinesLeft}
 use Rattle.judgement.proofs.put_reasons.Given as goal
 
 abbrev pub invariant-loop-i : goal.invariant-loop-i
-invariant-loop-i l = LinesLeft (reason_lines 6 0 l.group l.t l.m) l.initial.out l.at l.p l.out (reason_lines (6 - l.i) l.after l.group l.t l.m) × (l.i ≤ 6) × (l.p ≤ l.at + 456 * l.i)
-
-abbrev pub decreases-loop-i : goal.decreases-loop-i
-decreases-loop-i l = 6 - l.i
+invariant-loop-i g l = (l.text ++ reason_lines (6 - l._i) l.after l.sides.group l.sides.machine.tables.now l.sides.machine.memory.now ≡ l.initial.text ++ reason_lines 6 0 l.sides.group l.sides.machine.tables.now l.sides.machine.memory.now) × (length l.text ≤ length l.initial.text + 456 * l._i)

@@ -1,9 +1,14 @@
 -- `judgement::put_sides` meets its contract.
 -- Assumes nothing.
-use mathlib.Core.Path.{ap, ◌∙◌}
+use borrow.Author.Rules.{rules}
+use mathlib.Core.Path.{refl, ap, ◌∙◌}
+use mathlib.Core.List.{List, ◌++◌}
+use Prim.Native.Nat.{ℕ}
 use native.Mathlib.Omega.{arith}
 use lib.ListN.{length}
-use Rattle.text.proofs.Texts.{follow}
+use Rattle.text.specs.Text.{ascii}
+use Rattle.text.proofs.Texts.{grown}
+use Rattle.picture.specs.Lines.{side_text}
 use Rattle.tables.specs.Views.{cores_of}
 use Rattle.tables.proofs.Lift.{header}
 use Rattle.reach.specs.Reach.{members}
@@ -11,20 +16,36 @@ use Rattle.reasons.proofs.Reasons.{map_size}
 use Rattle.judgement.proofs.Answers.{sides_made}
 use Rattle.judgement.proofs.put_sides.Goals as goal
 
-pub bounds-t-0 : goal.bounds-t-0
-bounds-t-0 c = omega (arith, (header _ _ c.requires.m_value).long)
+pub put_side-requires : goal.put_side-requires
+put_side-requires g c =
+    let V = c.args.sides.now in
+    let M = V.machine in
+    let h = header _ _ M.is_sound in
+    let own = ap length V.own_map ∙ map_size (members V.group (cores_of M.tables.now)) M.tables.now M.memory.now in
+    (search rules, omega (arith, c.requires.room, c.cores-cores.ensures, h.few_cores, h.few_pages, own))
 
-pub put_side-p-requires : goal.put_side-p-requires
-put_side-p-requires c = let h = header _ _ c.requires.m_value in omega (arith, h.few_cores, h.few_pages, c.requires.in_bounds, ap length c.requires.maps.own_map ∙ map_size (members c.args.group (cores_of c.args.t.now)) c.args.t.now c.args.m.now, ap length c.requires.maps.other_map ∙ map_size (members c.args.others (cores_of c.args.t.now)) c.args.t.now c.args.m.now)
+pub put_side-requires-2 : goal.put_side-requires-2
+put_side-requires-2 g c =
+    let V = c.args.sides.now in
+    let M = V.machine in
+    let h = header _ _ M.is_sound in
+    let other = ap length V.other_map ∙ map_size (members V.others (cores_of M.tables.now)) M.tables.now M.memory.now in
+    (search rules, omega (arith, c.requires.room, c.cores-cores.ensures, c.put_side.ensures.bound, h.few_cores, h.few_pages, other))
 
-pub put_side-q-requires : goal.put_side-q-requires
-put_side-q-requires c = let h = header _ _ c.requires.m_value in omega (arith, h.few_cores, h.few_pages, c.requires.in_bounds, ap length c.requires.maps.own_map ∙ map_size (members c.args.group (cores_of c.args.t.now)) c.args.t.now c.args.m.now, ap length c.requires.maps.other_map ∙ map_size (members c.args.others (cores_of c.args.t.now)) c.args.t.now c.args.m.now, c.put_side-p.ensures.1, c.put_side-p.ensures.0.kept)
+pub put_picture-requires : goal.put_picture-requires
+put_picture-requires g c =
+    let V = c.args.sides.now in
+    let M = V.machine in
+    let h = header _ _ M.is_sound in
+    let own = ap length V.own_map ∙ map_size (members V.group (cores_of M.tables.now)) M.tables.now M.memory.now in
+    let other = ap length V.other_map ∙ map_size (members V.others (cores_of M.tables.now)) M.tables.now M.memory.now in
+    (search rules, omega (arith, c.requires.room, c.put_side.ensures.bound, c.put_side-2.ensures.bound, h.few_pages, own, other))
 
-pub put_picture-s-requires : goal.put_picture-s-requires
-put_picture-s-requires c = let h = header _ _ c.requires.m_value in omega (arith, h.few_pages, c.requires.in_bounds, ap length c.requires.maps.own_map ∙ map_size (members c.args.group (cores_of c.args.t.now)) c.args.t.now c.args.m.now, ap length c.requires.maps.other_map ∙ map_size (members c.args.others (cores_of c.args.t.now)) c.args.t.now c.args.m.now, c.put_side-p.ensures.1, c.put_side-p.ensures.0.kept, c.put_side-q.ensures.1, c.put_side-q.ensures.0.kept)
-
-pub put_legend-requires : goal.put_legend-requires
-put_legend-requires c = omega (arith, c.requires.in_bounds, c.put_side-p.ensures.1, c.put_side-q.ensures.1, c.put_picture-s.ensures.1, c.put_side-p.ensures.0.kept, c.put_side-q.ensures.0.kept, c.put_picture-s.ensures.0.kept)
-
-pub returns : goal.returns
-returns c = let M = c.requires.maps in (sides_made _ _ _ _ _ _ M.own_map M.others M.other_map (follow (follow (follow c.put_side-p.ensures.0 c.put_side-q.ensures.0) c.put_picture-s.ensures.0) c.put_legend.ensures.0), omega (arith, c.put_side-p.ensures.1, c.put_side-q.ensures.1, c.put_picture-s.ensures.1, c.put_legend.ensures.1))
+pub returns-clause-text : goal.returns-clause-text
+returns-clause-text g c =
+    let V = c.args.sides.now in
+    let n = c.cores-cores.ensures.0 in
+    let first = ap (λ (k : ℕ). side_text (ascii "group: ") (members V.group k) V.own.now) n in
+    let second = ap (λ (k : ℕ). side_text (ascii "rest: ") (members V.others k) V.other.now) n in
+    grown _ _ _ (grown _ _ _ (grown _ _ _ (c.put_side.ensures.text ∙ ap (λ (x : List ℕ). c.args.text.now ++ x) first) (c.put_side-2.ensures.text ∙ ap (λ (x : List ℕ). c.put_side.new.text ++ x) second) refl) c.put_picture.ensures.text refl)
+    c.put_legend.ensures.text (sides_made _ _ _ _ _ _ V.own_map V.others_are V.other_map)

@@ -1,16 +1,10 @@
--- A text that is put line by line: what is put and what is left are the whole. It serves contracts and proofs inside
--- alone (`all_lines` of proofs/Answers ends with the whole).
+-- The parts that a report is made of. They serve contracts and proofs inside alone (`sides_made` of proofs/Answers
+-- ends with the text of the sides).
 -- Assumes nothing.
-use Rattle.std.specs.Prelude.{◌≡◌, List, ◌++◌, ℕ}
-use Rattle.text.specs.Text.{Put}
+use Rattle.std.specs.Prelude.{◌≡◌, List, ℕ}
 use Rattle.tables.specs.Views.{cores_of}
 use Rattle.reach.specs.Reach.{members, map_for}
 use Rattle.separation.specs.Apart.{rest}
-
-pub record LinesLeft (whole b : List ℕ) (at r : ℕ) (c left : List ℕ) : Type 0 where
-  pub text : List ℕ
-  pub put : Put b at text r c
-  pub parts : text ++ left ≡ whole
 
 -- the others are the rest of the group g, and the two maps are filled
 pub record Maps (g o : ℕ) (t m own other : List ℕ) : Type 0 where

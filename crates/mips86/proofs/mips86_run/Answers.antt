@@ -1,11 +1,7 @@
 -- `mips86::mips86_run` meets its contract.
 -- Assumes nothing.
 use mathlib.Core.Path.{◌∙◌}
-use Rattle.mips86.proofs.Answers.{stop_fits}
 use Rattle.mips86.proofs.mips86_run.Goals as goal
-
-pub stop_number-requires : goal.stop_number-requires
-stop_number-requires c = rw c.run-r.ensures.same_why (stop_fits c.args.tables.now c.args.memory.now c.args.schedule.now c.args.limit)
 
 pub returns : goal.returns
 returns c = record { value = c.stop_number.ensures ∙ c.run-r.ensures.same_number; accepted_after = c.run-r.ensures.same_accepted; tables_after = c.run-r.ensures.same_tables; memory_after = c.run-r.ensures.same_memory }

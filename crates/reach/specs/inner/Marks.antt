@@ -1,21 +1,22 @@
 -- How the code keeps sets of pages: as marks in one array of bytes. It serves the contracts inside this crate alone:
--- `filled_map` and `filled_beyond` of proofs/Closing tie the marks to specs/Reach.antt, and the contracts of fill and reach speak of that file only.
+-- `filled_map` and `filled_beyond` of proofs/Closing tie the marks to specs/Reach.antt, and the contracts of fill and
+-- reach speak of that file only.
 -- Assumes nothing.
-use Rattle.std.specs.Prelude.{if◌then◌else◌, ◌≡◌, Bool, true, false, ◌||◌, not, ℕ, ◌+◌, ◌-◌, ◌*◌, ◌/◌, ◌%◌, eqb, ltb, get_or, set}
+use Rattle.std.specs.Prelude.{if◌then◌else◌, ◌≡◌, Bool, true, false, ◌||◌, not, ℕ, ◌+◌, ◌-◌, ◌*◌, ◌/◌, ◌%◌, eqb, ltb, get_or, set, Option, Some, None}
 use mathlib.Core.List.{List, [], ◌∷◌, ◌++◌, flat_map}
 use Rattle.word.specs.Word.{flag, is_set}
 use Rattle.word.specs.Bytes.{bytes_at}
 use Rattle.layout.specs.Blocks.{block}
+use Rattle.records.specs.declared.Record.{Record}
 use Rattle.records.specs.Records.{level_of, walk_in, store_in, walk_numbers, store_numbers}
-use Rattle.tlb.specs.declared.Entry.{Entry}
-use Rattle.tlb.specs.declared.Entry.TheVariants.{Word, Missing}
 use Rattle.tlb.specs.Walks.{base_address, entry_at, ptea_at, pte_p, pte_ba}
 use Rattle.tlb.specs.Steps.{origin_of}
 use Rattle.reach.specs.Lists.{range}
 
 -- ---- names
 
--- a page that is named: in set 0, 1 or 2 (first-level tables, second-level tables, data), with the write right or without it (1 or 0)
+-- a page that is named: in set 0, 1 or 2 (first-level tables, second-level tables, data), with the write right or
+-- without it (1 or 0)
 pub record Name : Type 0 where
   pub kind : ℕ
   pub page : ℕ
@@ -24,7 +25,8 @@ pub record Name : Type 0 where
 abbrev pub name : ℕ → ℕ → ℕ → Name
 name k p w = record { kind = k; page = p; write = w }
 
--- ---- marks: byte 8192 * k + p is 1 where page p is named in set k without the write right, byte 8192 * k + 4096 + p where it is named with it
+-- ---- marks: byte 8192 * k + p is 1 where page p is named in set k without the write right, byte 8192 * k + 4096 + p
+-- where it is named with it
 
 abbrev pub place : Name → ℕ
 place y = 8192 * y.kind + 4096 * y.write + y.page
@@ -62,13 +64,13 @@ is_marked s k x = eqb (get_or s (8192 * k + x) 0) 1 || is_written s k x
 -- ---- what is named
 
 -- by an entry of a table whose entries go to set k
-abbrev pub entry_name : ℕ → Entry → List Name
-entry_name k (Word e) = if pte_p e then name k (pte_ba e) (e / 256 % 2) ∷ [] else []
-entry_name k Missing = []
+abbrev pub entry_name : ℕ → Option ℕ → List Name
+entry_name k (Some e) = if pte_p e then name k (pte_ba e) (e / 256 % 2) ∷ [] else []
+entry_name k None = []
 
 -- by the entry at address a; by the four entries from there on
 abbrev pub name_from : ℕ → List ℕ → ℕ → List Name
-name_from k m a = entry_name k (Word (bytes_at 4 m a))
+name_from k m a = entry_name k (Some (bytes_at 4 m a))
 
 unfoldable pub four_names : ℕ → List ℕ → ℕ → List Name
 four_names k m a = name_from k m a ++ (name_from k m (a + 4) ++ (name_from k m (a + 8) ++ name_from k m (a + 12)))
@@ -89,6 +91,10 @@ unfoldable pub walk_name : ℕ → ℕ → List Name
 walk_name first second = if ltb (level_of first) 3 then name (2 - level_of first) second (first % 2) ∷ [] else []
 
 -- by record i of a block, a pending store or a walk
+abbrev pub named_by : Bool → Record → List Name
+named_by true r = name 2 (base_address r.first) 1 ∷ []
+named_by false r = walk_name r.first r.second
+
 unfoldable pub record_name : Bool → List ℕ → ℕ → List Name
 record_name true b i = name 2 (base_address (store_in b i).address) 1 ∷ []
 record_name false b i = walk_name (walk_in b i).first (walk_in b i).second

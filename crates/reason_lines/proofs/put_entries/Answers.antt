@@ -1,19 +1,21 @@
+use mathlib.Core.Path.{refl}
+use mathlib.Core.List.{List, ◌++◌}
+use Prim.Native.Nat.{ℕ}
 use native.Mathlib.Omega.{arith}
-use borrow.Author.Tests.{eq-eqb, ne_eqb}
-use Rattle.reason_lines.specs.Reasons.{entries_text}
-use Rattle.text.proofs.Texts.{nothing}
+use borrow.Author.Tests.{ne_eqb}
+use Rattle.io.specs.Digits.{last_digits}
 use Rattle.text.specs.Text.{ascii}
-use Rattle.reason_lines.proofs.Pairs.{pair}
+use Rattle.text.proofs.Texts.{grown}
+use Rattle.reason_lines.specs.Reasons.{entries_text}
 use Rattle.reason_lines.proofs.put_entries.Goals as goal
 
-pub returns-then-w-eq0 : goal.returns-then-w-eq0
+pub returns-in_default-clause-text : goal.returns-in_default-clause-text
 unfolding entries_text
-returns-then-w-eq0 c = (rw (eq-eqb _ _ c.if-w-eq0.true) (nothing _ _), omega arith)
-
-pub returns-then-w-eq1 : goal.returns-then-w-eq1
-unfolding entries_text
-returns-then-w-eq1 c = (rw (ne_eqb _ _ c.if-w-eq0.false, eq-eqb _ _ c.if-w-eq1.true) c.put_address.ensures.0, omega (arith, c.put_address.ensures.1))
-
-pub returns : goal.returns
-unfolding entries_text
-returns c = (rw (ne_eqb _ _ c.if-w-eq0.false, ne_eqb _ _ c.if-w-eq1.false) (pair (ascii " and ") _ c.put_address-p.ensures.0 c.put_address-2.ensures.0), omega (arith, c.put_address-p.ensures.1, c.put_address-2.ensures.1))
+returns-in_default-clause-text g c =
+    let w = c.args.w in
+    let old = c.args.text.now in
+    let first : List ℕ = ascii ", entries at " ++ last_digits 16 8 w.first in
+    rw (ne_eqb w.entries 0 (λ e. absurd (omega arith)), ne_eqb w.entries 1 (λ e. absurd (omega arith)))
+    (grown old (first ++ ascii " and ") (last_digits 16 8 w.second)
+    (grown old first (ascii " and ") (grown old (ascii ", entries at ") (last_digits 16 8 w.first) c.put-in_default.ensures c.put_hex-in_default.ensures.text refl) c.put-in_default-2.ensures refl)
+    c.put_hex-in_default-2.ensures.text refl)

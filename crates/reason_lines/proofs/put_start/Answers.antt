@@ -1,16 +1,13 @@
+use mathlib.Core.Path.{refl}
 use native.Mathlib.Omega.{arith}
-use borrow.Author.Tests.{eq-eqb, ne_eqb}
+use borrow.Author.Tests.{ne_eqb}
+use Rattle.text.proofs.Texts.{grown}
 use Rattle.reason_lines.specs.Reasons.{start_text}
 use Rattle.reason_lines.proofs.put_start.Goals as goal
 
-pub returns-then-w-eq0 : goal.returns-then-w-eq0
+pub returns-in_default-clause-text : goal.returns-in_default-clause-text
 unfolding start_text
-returns-then-w-eq0 c = (rw (eq-eqb _ _ c.if-w-eq0.true) c.put_pages_of.ensures.0, omega (arith, c.put_pages_of.ensures.1))
-
-pub returns-then-w-eq1 : goal.returns-then-w-eq1
-unfolding start_text
-returns-then-w-eq1 c = (rw (ne_eqb _ _ c.if-w-eq0.false, eq-eqb _ _ c.if-w-eq1.true) c.put_with.ensures.0, omega (arith, c.put_with.ensures.1))
-
-pub returns : goal.returns
-unfolding start_text
-returns c = (rw (ne_eqb _ _ c.if-w-eq0.false, ne_eqb _ _ c.if-w-eq1.false) c.put_with-2.ensures.0, omega (arith, c.put_with-2.ensures.1))
+returns-in_default-clause-text g c =
+    let n = c.args.w.start in
+    rw (ne_eqb n 0 (λ e. absurd (omega arith)), ne_eqb n 1 (λ e. absurd (omega arith)))
+    (grown _ _ _ c.put-in_default.ensures c.put_number-in_default.ensures.text refl)

@@ -1,34 +1,46 @@
 -- `reasons::tell` meets its contract.
 -- Assumes nothing.
 use mathlib.Core.Path.{sym, ap, ◌∙◌}
-use Prim.Native.Nat.{◌-◌}
-use native.Mathlib.Omega.{arith}
+use Prim.Native.Nat.{ℕ}
 use borrow.Author.Tests.{eq-eqb, ne_eqb}
-use Rattle.tables.proofs.Lift.{header}
-use Rattle.reasons.specs.Why.{Told, why_number}
-use Rattle.reasons.proofs.Telling.{tells_4, tells_12, tells_13, tells, after_small}
+use Rattle.std.specs.Prelude.{Ok}
+use Rattle.std.proofs.lemmas.Result.{err_from_is_err_and}
+use Rattle.reach.specs.Reach.{is_group}
+use Rattle.reasons.specs.Why.{Told, told}
+use Rattle.reasons.proofs.Telling.{promised_told, tells_unsound, tells_length, tells_group, tells}
 use Rattle.reasons.proofs.tell.Goals as goal
 
-pub returns-then-not-sound : goal.returns-then-not-sound
-returns-then-not-sound c = let e = tells_4 c.args.after c.args.group c.args.t.now c.args.m.now c.args.words.now (sym c.sound.ensures ∙ c.if-not-sound.true) in record { value = sym (ap (λ (z : Told). z.number) e); words_after = sym (ap (λ (z : Told). z.words) e) }
+pub returns-in_err-machine : goal.returns-in_err-machine
+returns-in_err-machine c =
+    let a = c.args in
+    let r = err_from_is_err_and c.from_residual.result c.from_residual.ensures.1 in
+    let e = c.in_err-machine.ensures in
+    let p = tells_unsound a.after a.group a.t.now a.m.now a.words.now e.1 in
+    promised_told (told a.after a.group a.t.now a.m.now a.words.now) (rw (r.1, r.2, e.0) (sym (ap (λ (z : Told). z.answer) p))) (sym (ap (λ (z : Told). z.words) p))
 
 pub returns-then-words-ne18 : goal.returns-then-words-ne18
-returns-then-words-ne18 c = let e = tells_12 c.args.after c.args.group c.args.t.now c.args.m.now c.args.words.now (sym c.sound.ensures ∙ c.if-not-sound.false) (ne_eqb _ 18 c.if-words-ne18.true) in record { value = sym (ap (λ (z : Told). z.number) e); words_after = sym (ap (λ (z : Told). z.words) e) }
-
-pub bounds-t-0 : goal.bounds-t-0
-bounds-t-0 c = omega (arith, (header _ _ (sym c.sound.ensures ∙ c.if-not-sound.false)).long)
-
-pub is_group-requires : goal.is_group-requires
-is_group-requires c = (header _ _ (sym c.sound.ensures ∙ c.if-not-sound.false)).few_cores
+returns-then-words-ne18 c =
+    let a = c.args in
+    let M = c.in_ok-machine.machine in
+    let e = c.in_ok-machine.ensures in
+    let p = tells_length a.after a.group M.tables.now M.memory.now a.words.now M.is_sound (ne_eqb _ 18 c.if-words-ne18.true) in
+    rw (sym e.0, sym e.1) (promised_told (told a.after a.group M.tables.now M.memory.now a.words.now) (sym (ap (λ (z : Told). z.answer) p)) (sym (ap (λ (z : Told). z.words) p)))
 
 pub returns-then-not-is_group : goal.returns-then-not-is_group
-returns-then-not-is_group c = let e = tells_13 c.args.after c.args.group c.args.t.now c.args.m.now c.args.words.now (sym c.sound.ensures ∙ c.if-not-sound.false) (eq-eqb _ 18 c.if-words-ne18.false) (sym c.is_group.ensures ∙ c.if-not-is_group.true) in record { value = sym (ap (λ (z : Told). z.number) e); words_after = sym (ap (λ (z : Told). z.words) e) }
-
-pub judge-r-requires : goal.judge-r-requires
-judge-r-requires c = sym c.sound.ensures ∙ c.if-not-sound.false
-
-pub number-requires : goal.number-requires
-number-requires c = let a = c.args in omega (arith, after_small a.group a.t.now a.m.now (6 - a.after) a.after, ap why_number c.judge-r.ensures)
+returns-then-not-is_group c =
+    let a = c.args in
+    let M = c.in_ok-machine.machine in
+    let e = c.in_ok-machine.ensures in
+    let g = c.is_group.ensures ∙ ap (λ (n : ℕ). is_group a.group n) c.cores.ensures.0 in
+    let p = tells_group a.after a.group M.tables.now M.memory.now a.words.now M.is_sound (eq-eqb _ 18 c.if-words-ne18.false) (sym g ∙ c.if-not-is_group.true) in
+    rw (sym e.0, sym e.1) (promised_told (told a.after a.group M.tables.now M.memory.now a.words.now) (sym (ap (λ (z : Told). z.answer) p)) (sym (ap (λ (z : Told). z.words) p)))
 
 pub returns : goal.returns
-returns c = let e = tells c.args.after c.args.group c.args.t.now c.args.m.now c.args.words.now (sym c.sound.ensures ∙ c.if-not-sound.false) _ (eq-eqb _ 18 c.if-words-ne18.false) (sym c.is_group.ensures ∙ c.if-not-is_group.false) c.judge-r.ensures in record { value = c.number.ensures ∙ sym (ap (λ (z : Told). z.number) e); words_after = c.put_both.ensures ∙ sym (ap (λ (z : Told). z.words) e) }
+returns c =
+    let a = c.args in
+    let M = c.in_ok-machine.machine in
+    let e = c.in_ok-machine.ensures in
+    let g = c.is_group.ensures ∙ ap (λ (n : ℕ). is_group a.group n) c.cores.ensures.0 in
+    let p = tells a.after a.group M.tables.now M.memory.now a.words.now M.is_sound _ (eq-eqb _ 18 c.if-words-ne18.false) (sym g ∙ c.if-not-is_group.false) c.judge-reason.ensures in
+    rw (sym e.0, sym e.1)
+    (promised_told (told a.after a.group M.tables.now M.memory.now a.words.now) (ap Ok c.number.ensures ∙ sym (ap (λ (z : Told). z.answer) p)) (c.put_both.ensures ∙ sym (ap (λ (z : Told). z.words) p)))

@@ -1,5 +1,5 @@
--- What the check asks of each chain and of each record on it: rules of Records and Contents. It serves contracts inside alone:
--- `fails_once` and `tested_all` of proofs/Contents tie `ruled` to `sound_records`.
+-- What the check asks of each chain and of each record on it: rules of Records and Contents. It serves contracts inside
+-- alone: `fails_once` and `tested_all` of proofs/Contents tie `ruled` to `sound_records`.
 -- Assumes nothing.
 use Rattle.std.specs.Prelude.{ℕ, Bool, ◌&&◌, List, length, leb}
 use Rattle.layout.specs.Layout.{store_head, walk_head, free_head}

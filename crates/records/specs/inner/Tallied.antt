@@ -1,5 +1,5 @@
--- What the count of a chain's records gives: whether they are few and all fit, and then how often each is there. It serves contracts inside alone:
--- `tallied_once` of proofs/Whole ties the three counts to `ruled` and `once_each`.
+-- What the count of a chain's records gives: whether they are few and all fit, and then how often each is there. It
+-- serves contracts inside alone: `tallied_once` of proofs/Whole ties the three counts to `ruled` and `once_each`.
 -- Assumes nothing.
 use Rattle.std.specs.Prelude.{◌≡◌, ℕ, ◌+◌, ◌<◌, Bool, true, List, length, get_or}
 use Rattle.records.specs.declared.check.Rule.{Rule}

@@ -1,5 +1,5 @@
--- The list of walks after a walk was added, and after some were dropped. It serves proofs alone: `add_law` and `drop_law` of
--- proofs/Laws tie it to what `add_walk` and `drop_walks` do to a block.
+-- The list of walks after a walk was added, and after some were dropped. It serves proofs alone: `add_law` and
+-- `drop_law` of proofs/Laws tie it to what `add_walk` and `drop_walks` do to a block.
 -- Assumes nothing.
 use Rattle.std.specs.Prelude.{ℕ, Bool, true, false, List, [], ◌∷◌}
 use Rattle.records.specs.declared.Walk.{Walk}

@@ -8,4 +8,4 @@ use Rattle.separation.proofs.Separation.{separation}
 use Rattle.separation.proofs.apart.Goals as goal
 
 pub returns : goal.returns
-returns c = record { value = c.judged.ensures; promised = λ h. separation c.args.group (machine_of c.args.t.now c.args.m.now) (record { words = λ i. omega (arith, c.type_inv.t i); bytes = λ i. omega (arith, c.type_inv.m i) }) (sym c.judged.ensures ∙ h); result_value = ap verdict_number c.judged.ensures }
+returns c = record { value = c.judged.ensures; promised = λ h. separation c.args.group (machine_of c.args.t.now c.args.m.now) (record { words = λ i. omega (arith, c.type_inv.t i); bytes = λ i. omega (arith, c.type_inv.m i) }) (sym c.judged.ensures ∙ h); number = ap verdict_number c.judged.ensures }

@@ -15,6 +15,7 @@ passes g t k = not (is_set g k || runs (block t k)) || runs_as_user t k
 abbrev pub both : ℕ → Bool
 both x = is_set x 1 && is_set x 2
 
--- a page whose byte is x for the group and y for the rest: not writable and table for one, nor reached by the group and writable or table for the rest
+-- a page whose byte is x for the group and y for the rest: not writable and table for one, nor reached by the group and
+-- writable or table for the rest
 unfoldable pub page_apart : ℕ → ℕ → Bool
 page_apart x y = not (both x) && (not (both y) && not (not (eqb x 0) && (is_set y 2 || is_set y 1)))

@@ -1,9 +1,6 @@
 use native.Mathlib.Omega.{arith}
-use Rattle.simulation.proofs.Fronts.{none_short, none_cores, none_pages, all_pages, at_most}
+use Rattle.simulation.proofs.Fronts.{none_cores, none_pages, all_pages, at_most}
 use Rattle.simulation.proofs.memory_bytes.Goals as goal
-
-pub returns-then-input-lt2 : goal.returns-then-input-lt2
-returns-then-input-lt2 c = (none_short _ c.if-input-lt2.true, omega arith)
 
 pub returns-then-cores : goal.returns-then-cores
 returns-then-cores c = (none_cores _ c.if-input-lt2.false _ c.wide-cores.ensures.0 c.if-cores.true, omega arith)

@@ -1,10 +1,10 @@
 -- `store_buffer::read_memory` meets its contract.
 -- Assumes nothing.
+use Rattle.std.specs.Prelude.{Some}
 use mathlib.Core.Path.{sym, ap, ◌∙◌}
 use Prim.Native.Nat.{ℕ}
 use native.Mathlib.Omega.{arith}
 use Rattle.word.specs.Bytes.{bytes_at}
-use Rattle.store_buffer.specs.declared.Read.TheVariants.{There}
 use Rattle.store_buffer.proofs.Access.{InWord, aligned_word, memory_there, memory_beyond}
 use Rattle.store_buffer.proofs.read_memory.Goals as goal
 use Rattle.store_buffer.proofs.read_memory.Goals.{After-shared_slice_known-1}
@@ -20,7 +20,7 @@ returns-then-memory-at c =
 pub returns-then-d-eq4 : goal.returns-then-d-eq4
 returns-then-d-eq4 c =
     let w = word (goal.at.returns-then-d-eq4 c).After-shared_slice_known-1 in
-    ap There (c.read_word.ensures ∙ ap (λ (n : ℕ). bytes_at n c.args.memory.now c.args.a) (sym c.if-d-eq4.true))
+    ap Some (c.read_word.ensures ∙ ap (λ (n : ℕ). bytes_at n c.args.memory.now c.args.a) (sym c.if-d-eq4.true))
     ∙ sym (memory_there c.args.memory.now c.args.a c.args.d (omega (arith, w.within, w.some)) c.if-memory-at.false)
 
 pub read-requires : goal.read-requires
@@ -29,4 +29,4 @@ read-requires c = let w = word (goal.at.read-requires c).After-shared_slice_know
 pub returns : goal.returns
 returns c =
     let w = word (goal.at.returns c).After-shared_slice_known-1 in
-    ap There c.read.ensures ∙ sym (memory_there c.args.memory.now c.args.a c.args.d (omega (arith, w.within, w.some)) c.if-memory-at.false)
+    ap Some c.read.ensures ∙ sym (memory_there c.args.memory.now c.args.a c.args.d (omega (arith, w.within, w.some)) c.if-memory-at.false)

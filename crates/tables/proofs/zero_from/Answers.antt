@@ -1,14 +1,12 @@
-use Rattle.tables.proofs.Copy.{zeros_start, zeros_next, zeros_fail, zeros_end}
+use mathlib.Core.Path.{◌≡◌}
+use mathlib.Core.Logic.{◌≢◌}
+use borrow.Author.Rules.{rules}
+use borrow.Author.Tests.{tests}
+use Rattle.std.proofs.lemmas.Iterator.{cases_from_all, YieldsList-from_slice}
+use Rattle.tables.proofs.Places.{zeros_by}
 use Rattle.tables.proofs.zero_from.Goals as goal
 
-pub loop-k-init : goal.loop-k-init
-loop-k-init c = zeros_start _ _ _
-
-pub returns-then-l-at-ne0 : goal.returns-then-l-at-ne0
-returns-then-l-at-ne0 c = zeros_fail c.loop-k.invariant c.loop-k-test.true c.if-l-at-ne0.true
-
-pub loop-k-preserved : goal.loop-k-preserved
-loop-k-preserved c = zeros_next c.loop-k.invariant c.loop-k-test.true c.if-l-at-ne0.false
-
 pub returns : goal.returns
-returns c = zeros_end c.loop-k.invariant c.loop-k-test.false
+returns c =
+    zeros_by c.args.d c.args.i c.args.l.now c.requires c.all.result
+    (cases_from_all _ _ _ (λ x. x ≡ 0) (λ x. x ≢ 0) c.all.ensures.ran (YieldsList-from_slice _ c.iter.ensures.rest) (λ x q k. search (rules, tests)) (λ x q k. search (rules, tests)))

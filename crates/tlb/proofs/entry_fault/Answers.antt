@@ -3,11 +3,11 @@
 use Rattle.tlb.proofs.Faults.{word_faults, word_passes, missing_undecided}
 use Rattle.tlb.proofs.entry_fault.Goals as goal
 
-pub returns-then-wext_faults : goal.returns-then-wext_faults
-returns-then-wext_faults c = word_faults _ c.in-Word.is c.wext_faults.ensures c.if-wext_faults.true
+pub returns-in-Some : goal.returns-in-Some
+returns-in-Some c = word_faults _ c.in-Some.is c.wext_faults.ensures c.if-wext_faults.true
 
-pub returns-else-wext_faults : goal.returns-else-wext_faults
-returns-else-wext_faults c = word_passes _ c.in-Word.is c.wext_faults.ensures c.if-wext_faults.false
+pub returns-in-Some-2 : goal.returns-in-Some-2
+returns-in-Some-2 c = word_passes _ c.in-Some.is c.wext_faults.ensures c.if-wext_faults.false
 
-pub returns-in-Missing : goal.returns-in-Missing
-returns-in-Missing c = missing_undecided _ c.in-Missing.is
+pub returns-in-None : goal.returns-in-None
+returns-in-None c = missing_undecided _ c.in-None.is

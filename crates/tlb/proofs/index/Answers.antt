@@ -7,5 +7,5 @@ use Rattle.tlb.proofs.index.Goals as goal
 pub returns-then-level-eq2 : goal.returns-then-level-eq2
 returns-then-level-eq2 c = index_two _ (sym c.level.ensures ∙ c.if-level-eq2.true)
 
-pub returns : goal.returns
-returns c = index_one _ (λ e. c.if-level-eq2.false (c.level.ensures ∙ e))
+pub returns-else-level-eq2 : goal.returns-else-level-eq2
+returns-else-level-eq2 c = index_one _ (λ e. c.if-level-eq2.false (c.level.ensures ∙ e))

@@ -1,5 +1,6 @@
--- The walks that stay after the flushes of definition 20, as lists. It serves proofs alone: `flush_page_lem` and `flush_incomplete_lem` of proofs/Flushes tie
--- it to what records drop, and proofs/Flushed of the crate report to the report's own δtlb on sets.
+-- The walks that stay after the flushes of definition 20, as lists. It serves proofs alone: `flush_page_lem` and
+-- `flush_incomplete_lem` of proofs/Flushes tie it to what records drop, and proofs/Flushed of the crate report to the
+-- report's own δtlb on sets.
 -- Assumes nothing.
 use Rattle.std.specs.Prelude.{if◌then◌else◌, Bool, ◌&&◌, not, List, [], ◌∷◌, ℕ, eqb}
 use Rattle.records.specs.declared.Walk.{Walk}

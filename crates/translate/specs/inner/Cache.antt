@@ -1,12 +1,11 @@
--- How the code keeps the entries that it has read: their addresses in the order in which they were first asked for, each entry beside its
--- address, and a slot for each address. It serves the contracts inside this crate alone: `asked_reads` of proofs/Different ties the addresses kept to
--- specs/Translate.antt, and the contract of translate speaks of that file only.
+-- How the code keeps the entries that it has read: their addresses in the order in which they were first asked for,
+-- each entry beside its address, and a slot for each address. It serves the contracts inside this crate alone:
+-- `asked_reads` of proofs/Different ties the addresses kept to specs/Translate.antt, and the contract of translate
+-- speaks of that file only.
 -- Assumes nothing.
-use Rattle.std.specs.Prelude.{if◌then◌else◌, ◌≡◌, false, ◌&&◌, not, List, [], ◌∷◌, ◌++◌, ℕ, ◌+◌, ◌*◌, ◌/◌, ◌%◌, ◌≤◌, ◌<◌, length, get_or, take}
+use Rattle.std.specs.Prelude.{if◌then◌else◌, ◌≡◌, false, ◌&&◌, not, List, [], ◌∷◌, ◌++◌, ℕ, ◌+◌, ◌*◌, ◌/◌, ◌%◌, ◌≤◌, ◌<◌, length, get_or, take, Option, None, Some}
 use Rattle.word.specs.Bytes.{bytes_at}
 use Rattle.reach.specs.Lists.{has}
-use Rattle.translate.specs.declared.cache.Place.{Place}
-use Rattle.translate.specs.declared.cache.Place.TheVariants.{At, Nowhere}
 use Rattle.translate.specs.Translate.{is_there}
 
 -- the addresses kept after the entry at a was asked for; after all of a list were
@@ -17,7 +16,8 @@ unfoldable pub cache_all : List ℕ → List ℕ → List ℕ → List ℕ
 cache_all m k [] = k
 cache_all m k (a ∷ l) = cache_all m (cache m k a) l
 
--- the slot of an address: its place in the table, moved by the page, so that the entries of neighbouring tables have slots far apart
+-- the slot of an address: its place in the table, moved by the page, so that the entries of neighbouring tables have
+-- slots far apart
 abbrev pub slot_of : ℕ → ℕ
 slot_of a = (a / 4 + 633 * (a / 4096)) % 1024
 
@@ -35,9 +35,9 @@ pub record Cached (m : List ℕ) (n : ℕ) (keys words slots : List ℕ) : Type 
   pub slotted : Slotted n keys slots
 
 -- where the address a stands among the first n of some
-abbrev pub Finds : ℕ → ℕ → List ℕ → Place → Type 0
-Finds a n keys (At i) = (i < n) × (get_or keys i 0 ≡ a)
-Finds a n keys Nowhere = has a (take n keys) ≡ false
+abbrev pub Finds : ℕ → ℕ → List ℕ → Option ℕ → Type 0
+Finds a n keys (Some i) = (i < n) × (get_or keys i 0 ≡ a)
+Finds a n keys None = has a (take n keys) ≡ false
 
 -- what was kept after the entries at the addresses l were asked for: c entries, each once
 pub record Asked (m l : List ℕ) (n : ℕ) (keys : List ℕ) (c : ℕ) (keys' words' slots' : List ℕ) : Type 0 where

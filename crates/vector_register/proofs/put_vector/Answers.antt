@@ -4,4 +4,4 @@ use Rattle.vector_register.proofs.put_vector.Goals as goal
 
 pub returns : goal.returns
 unfolding with_vector
-returns c = rw c.put_bit.ensures
+returns c = rw (c.put_bit.ensures, c.from.ensures)

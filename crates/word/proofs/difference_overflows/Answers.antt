@@ -1,8 +1,8 @@
-use Rattle.word.proofs.Laws.{difference_low, difference_else}
+use Rattle.word.proofs.Laws.{value_as, none_within}
 use Rattle.word.proofs.difference_overflows.Goals as goal
 
-pub returns-then-p-q : goal.returns-then-p-q
-returns-then-p-q c = difference_low _ _ c.ranges.a.fits c.ranges.b.fits c.biased-p.ensures c.biased-q.ensures c.if-p-q.true
-
 pub returns : goal.returns
-returns c = difference_else _ _ c.ranges.a.fits c.ranges.b.fits c.biased-p.ensures c.biased-q.ensures c.if-p-q.false
+returns c =
+    none_within c.checked_sub.result _ _
+    (rw (value_as c.args.a _ c.ranges.a.fits c.cast_signed.ensures, value_as c.args.b _ c.ranges.b.fits c.cast_signed-2.ensures) at c.checked_sub.ensures)
+    c.is_none.ensures

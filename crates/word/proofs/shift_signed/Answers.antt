@@ -1,19 +1,9 @@
-use Rattle.word.proofs.Laws.{ones_shifted, shifted_below}
-use Rattle.std.proofs.Common.{◌-◌, add-zero, arith, pow_pos, pow_mono, le-ltb, lt-ltb}
-use Rattle.word.specs.Word.{sra}
-use lib.Pow.{shr_le}
+use Rattle.std.proofs.Common.{w32}
+use Rattle.std.proofs.lemmas.Int.{to_z-of_z}
+use Rattle.word.proofs.Laws.{value_as, shr_fits, shr_sra}
 use Rattle.word.proofs.shift_signed.Goals as goal
 
-pub overflow_sub-result : goal.overflow_sub-result
-overflow_sub-result c = shr_le _ _
-
-pub overflow_add-result : goal.overflow_add-result
-overflow_add-result c = record { fits = omega (arith, ones_shifted _ _ c.ranges.a.fits c.requires, shifted_below _ _ c.ranges.a.fits c.requires, pow_pos (32 - c.args.i), pow_mono {i = 32 - c.args.i} {j = 32} (omega arith)) }
-
-pub returns-then-a-lt2147483648 : goal.returns-then-a-lt2147483648
-unfolding sra
-returns-then-a-lt2147483648 c = simp (lt-ltb _ _ c.if-a-lt2147483648.true, add-zero)
-
-pub returns-else-a-lt2147483648 : goal.returns-else-a-lt2147483648
-unfolding sra
-returns-else-a-lt2147483648 c = simp (le-ltb _ _ c.if-a-lt2147483648.false) (omega (arith, ones_shifted _ _ c.ranges.a.fits c.requires, pow_pos (32 - c.args.i), pow_mono {i = 32 - c.args.i} {j = 32} (omega arith)))
+pub returns : goal.returns
+returns c =
+    let f = shr_fits c.args.a c.args.i c.ranges.a.fits c.requires in
+    rw (c.cast_unsigned.ensures, value_as c.args.a _ c.ranges.a.fits c.cast_signed.ensures, to_z-of_z w32 _ f) (shr_sra c.args.a c.args.i c.ranges.a.fits c.requires)

@@ -1,18 +1,14 @@
-use Rattle.word.proofs.Laws.{sizes_lt, low_low, low_high, high_low, high_high}
-use Rattle.std.proofs.Common.{◌∙◌}
+use Rattle.std.proofs.Common.{w64, ◌∙◌, ◌*ℤ◌}
+use Rattle.std.proofs.lemmas.Int.{to_z-of_z}
+use Rattle.word.proofs.Laws.{value_as, value_wide, product_fits, twoc_cast}
+use Rattle.word.specs.Word.{signed}
 use Rattle.word.proofs.signed_product.Goals as goal
 
-pub overflow_mul-p : goal.overflow_mul-p
-overflow_mul-p c = rw (c.magnitude.ensures, c.magnitude-2.ensures) (record { fits = sizes_lt _ _ c.ranges.a.fits c.ranges.b.fits })
-
-pub returns-then-b-lt2147483648 : goal.returns-then-b-lt2147483648
-returns-then-b-lt2147483648 c = low_low _ _ c.ranges.a.fits c.ranges.b.fits c.magnitude.ensures c.magnitude-2.ensures c.if-a-lt2147483648.true c.if-b-lt2147483648.true
-
-pub returns-else-b-lt2147483648 : goal.returns-else-b-lt2147483648
-returns-else-b-lt2147483648 c = c.sub_wide.ensures ∙ low_high _ _ c.ranges.a.fits c.ranges.b.fits c.magnitude.ensures c.magnitude-2.ensures c.if-a-lt2147483648.true c.if-b-lt2147483648.false
-
-pub returns-then-b-lt2147483648-2 : goal.returns-then-b-lt2147483648-2
-returns-then-b-lt2147483648-2 c = c.sub_wide-then-b-lt2147483648-2.ensures ∙ high_low _ _ c.ranges.a.fits c.ranges.b.fits c.magnitude.ensures c.magnitude-2.ensures c.if-a-lt2147483648.false c.if-b-lt2147483648-2.true
-
-pub returns-else-b-lt2147483648-2 : goal.returns-else-b-lt2147483648-2
-returns-else-b-lt2147483648-2 c = high_high _ _ c.ranges.a.fits c.ranges.b.fits c.magnitude.ensures c.magnitude-2.ensures c.if-a-lt2147483648.false c.if-b-lt2147483648-2.false
+pub returns : goal.returns
+returns c =
+    let a = c.args.a in
+    let b = c.args.b in
+    let p = value_wide a _ c.ranges.a.fits (c.from.ensures ∙ value_as a _ c.ranges.a.fits c.cast_signed.ensures) in
+    let q = value_wide b _ c.ranges.b.fits (c.from-2.ensures ∙ value_as b _ c.ranges.b.fits c.cast_signed-2.ensures) in
+    let f = product_fits a b c.ranges.a.fits c.ranges.b.fits in
+    rw (c.cast_unsigned.ensures, p, q, to_z-of_z w64 (signed 32 a *ℤ signed 32 b) f) (twoc_cast (signed 32 a *ℤ signed 32 b) f)

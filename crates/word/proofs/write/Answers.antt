@@ -1,12 +1,14 @@
-use Rattle.std.proofs.Common.{refl, ◌∙◌, arith, length-set}
-use Rattle.word.proofs.Bytes.{put_more, write_start, write_done}
+use Rattle.std.proofs.Common.{sym, ◌∙◌, arith}
+use Rattle.std.proofs.lemmas.Slice.{put_mid-paste}
+use Rattle.word.proofs.Bytes.{low_more, low_all, length_low, put_paste}
 use Rattle.word.proofs.write.Goals as goal
 
-pub loop-i-init : goal.loop-i-init
-loop-i-init c = (omega arith, refl, write_start c.args.m.now c.args.d c.args.at c.args.v)
-
-pub loop-i-preserved : goal.loop-i-preserved
-loop-i-preserved c = (omega arith, simp length-set c.loop-i.invariant.1, put_more c.loop-i.m c.args.d c.args.at c.loop-i.i c.loop-i.rest c.loop-i-test.true ∙ c.loop-i.invariant.2)
+pub loop-byte-preserved : goal.loop-byte-preserved
+loop-byte-preserved c = low_more c.args.d c.loop-byte.byte-index c.loop-byte.byte-items c.loop-byte.rest (omega arith) (omega arith) ∙ c.loop-byte.invariant
 
 pub returns : goal.returns
-returns c = write_done c.loop-i.m c.args.d c.args.at c.loop-i.i c.loop-i.rest c.loop-i-test.false ∙ c.loop-i.invariant.2
+returns c =
+    put_mid-paste c.args.at _ c.args.m.now _ _ c.args.d
+    (low_all c.args.d c.loop-byte.byte-index c.loop-byte.byte-items c.loop-byte.rest (omega arith) (omega arith) ∙ c.loop-byte.invariant)
+    (omega arith) (sym (length_low c.args.d c.args.v))
+    ∙ sym (put_paste c.args.d c.args.m.now c.args.at c.args.v c.requires)

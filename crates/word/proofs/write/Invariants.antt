@@ -1,9 +1,6 @@
-use Rattle.std.proofs.Common.{◌≡◌, ◌+◌, ◌-◌, ◌≤◌, length}
-use Rattle.word.specs.Bytes.{put}
+use Rattle.std.proofs.Common.{◌≡◌, ◌-◌, ◌++◌, take}
+use Rattle.word.proofs.Bytes.{low_bytes}
 use Rattle.word.proofs.write.Given as goal
 
-abbrev pub invariant-loop-i : goal.invariant-loop-i
-invariant-loop-i l = (l.i ≤ l.d) × (length l.m ≡ length l.initial.m) × (put (l.d - l.i) l.m (l.at + l.i) l.rest ≡ put l.d l.initial.m l.at l.v)
-
-abbrev pub decreases-loop-i : goal.decreases-loop-i
-decreases-loop-i l = l.d - l.i
+abbrev pub invariant-loop-byte : goal.invariant-loop-byte
+invariant-loop-byte l = take l.byte-index l.byte-items ++ low_bytes (l.d - l.byte-index) l.rest ≡ low_bytes l.d l.v

@@ -8,6 +8,6 @@ pub returns-then-a-eq12 : goal.returns-then-a-eq12
 unfolding port_written
 returns-then-a-eq12 c = c.end.ensures ∙ rw (eq-eqb _ _ c.if-a-eq12.true)
 
-pub returns : goal.returns
+pub returns-else-a-eq12 : goal.returns-else-a-eq12
 unfolding port_written
-returns c = rw (ne_eqb _ _ c.if-a-eq12.false)
+returns-else-a-eq12 c = rw (ne_eqb _ _ c.if-a-eq12.false)

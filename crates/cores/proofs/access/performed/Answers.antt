@@ -14,7 +14,7 @@ unfolding performed
 returns-then-is_store c = rw (c.store.ensures, ← c.is_load.ensures, c.if-is_load.false, ← c.is_store.ensures, c.if-is_store.true) refl
 
 pub cas-requires : goal.cas-requires
-cas-requires c = record { b_len = c.requires.sound_beside.long; a_value = subst (λ n. aligned c.args.a n ≡ true) (cas_width c.args.f.instruction c.requires.instruction_value (sym c.is_load.ensures ∙ c.if-is_load.false) (sym c.is_store.ensures ∙ c.if-is_store.false)) c.requires.instruction_value_2 }
+cas-requires c = record { a_value = subst (λ n. aligned c.args.a n ≡ true) (cas_width c.args.f.instruction c.requires.instruction_value (sym c.is_load.ensures ∙ c.if-is_load.false) (sym c.is_store.ensures ∙ c.if-is_store.false)) c.requires.instruction_value_2 }
 
 pub returns : goal.returns
 unfolding performed

@@ -2,10 +2,10 @@ use mathlib.Core.Path.{refl}
 use Rattle.cores.specs.BufferStep.{on_oldest}
 use Rattle.cores.proofs.buffer_step.drain.Goals as goal
 
-pub returns-in-Empty : goal.returns-in-Empty
+pub returns-in-None : goal.returns-in-None
 unfolding on_oldest
-returns-in-Empty c = rw (c.refused.ensures, ← c.oldest_store-o.ensures, c.in-Empty.is) refl
+returns-in-None c = rw (← c.oldest_store-o.ensures, c.in-None.is) refl
 
-pub returns-in-Leaves : goal.returns-in-Leaves
+pub returns-in-Some : goal.returns-in-Some
 unfolding on_oldest
-returns-in-Leaves c = rw (c.leaves_to.ensures, c.destination.ensures, ← c.oldest_store-o.ensures, c.in-Leaves.is) refl
+returns-in-Some c = rw (c.leaves_to.ensures, c.destination.ensures, ← c.oldest_store-o.ensures, c.in-Some.is) refl

@@ -12,11 +12,11 @@ returns-in-LocalPort c = rw (c.done.ensures, c.in-LocalPort.is) refl
 
 pub returns-else-writes : goal.returns-else-writes
 unfolding leaves_to
-returns-else-writes c = rw (c.refused.ensures, c.in-IoPort.is, ← c.writes.ensures, c.if-writes.false) refl
+returns-else-writes c = rw (c.in-IoPort.is, ← c.writes.ensures, c.if-writes.false) refl
 
 pub returns-in-Narrow : goal.returns-in-Narrow
 unfolding leaves_to
-returns-in-Narrow c = rw (c.refused-in-Narrow.ensures, c.in-Narrow.is) refl
+returns-in-Narrow c = rw c.in-Narrow.is refl
 
 pub returns-in-Memory : goal.returns-in-Memory
 unfolding leaves_to
@@ -24,4 +24,4 @@ returns-in-Memory c = rw (c.done-in-Memory.ensures, c.in-Memory.is) refl
 
 pub returns-in-Beyond : goal.returns-in-Beyond
 unfolding leaves_to
-returns-in-Beyond c = rw (c.refused-in-Beyond.ensures, c.in-Beyond.is) refl
+returns-in-Beyond c = rw c.in-Beyond.is refl

@@ -2,10 +2,6 @@ use mathlib.Core.Path.{refl}
 use Rattle.cores.specs.TlbSteps.{planned}
 use Rattle.cores.proofs.tlb_steps.planned.Goals as goal
 
-pub returns-in-Refused : goal.returns-in-Refused
-unfolding planned
-returns-in-Refused c = rw (c.refused.ensures, c.in-Refused.is) refl
-
 pub returns-in-Adds : goal.returns-in-Adds
 unfolding planned
 returns-in-Adds c = rw (c.adding.ensures, c.in-Adds.is) refl

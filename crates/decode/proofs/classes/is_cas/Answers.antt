@@ -1,5 +1,6 @@
-use Rattle.decode.proofs.Ranges.{cas_number}
+use Rattle.std.proofs.Common.{◌∙◌}
+use Rattle.decode.proofs.Ranges.{cas_same}
 use Rattle.decode.proofs.classes.is_cas.Goals as goal
 
 pub returns : goal.returns
-returns c = rw c.number.ensures (cas_number _)
+returns c = c.eq.ensures ∙ cas_same c.args.i

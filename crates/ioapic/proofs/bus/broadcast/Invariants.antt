@@ -1,8 +1,7 @@
 -- `ioapic::bus::broadcast` meets its contract. The invariant: the cores below j are done.
 use mathlib.Core.Path.{◌≡◌}
 use mathlib.Core.List.{List}
-use Prim.Native.Nat.{ℕ, ◌-◌, ◌≤◌}
-use lib.ListN.{length}
+use Prim.Native.Nat.{ℕ}
 use lib.Dec.{eqb}
 use Rattle.apic.specs.Active.{received_by}
 use Rattle.ioapic.specs.Blocks.{on_blocks}
@@ -10,7 +9,4 @@ use Rattle.ioapic.proofs.bus.broadcast.Given as goal
 
 abbrev pub invariant-loop-j : goal.invariant-loop-j
 invariant-loop-j l =
-    (l.j ≤ l.n) × ((length l.t ≡ length l.initial.t) × (l.t ≡ on_blocks (λ (k : ℕ) (b : List ℕ). received_by l.m (eqb k l.i) b) l.j l.initial.t))
-
-abbrev pub decreases-loop-j : goal.decreases-loop-j
-decreases-loop-j l = l.n - l.j
+    l.t ≡ on_blocks (λ (k : ℕ) (b : List ℕ). received_by l.m (eqb k l.i) b) l.j l.initial.t

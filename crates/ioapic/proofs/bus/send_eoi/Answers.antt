@@ -12,5 +12,5 @@ pub returns : goal.returns
 unfolding send_eoi
 returns c =
     let a = c.args in
-    c.end.ensures
+    c.end.ensures ∙ ap (eoi_received _) c.from.ensures
     ∙ ap (λ (t : List ℕ). eoi_received t a.v) (part_done a.t.now a.i c.block_at-a.result c.block_at-a.ensures (λ (b : List ℕ). eoi_sent b a.v) c.eoi_sent.new.b c.eoi_sent.ensures)

@@ -1,13 +1,11 @@
 -- `ioapic::ports::select` meets its contract.
 use mathlib.Core.Path.{refl}
+use Prim.Native.Nat.{◌+◌}
 use native.Mathlib.Omega.{arith}
-use lib.ListN.{length-set}
+use lib.Seq.{get_or-set_other}
 use Rattle.ioapic.specs.IoApic.{selected}
 use Rattle.ioapic.proofs.ports.select.Goals as goal
 
-pub bounds-t-5 : goal.bounds-t-5
-bounds-t-5 c = simp length-set (omega arith)
-
 pub returns : goal.returns
 unfolding selected
-returns c = refl
+returns c = rw (get_or-set_other c.args.t.now 4 (6 + c.args.v) c.args.v 0 (λ q. omega arith)) refl

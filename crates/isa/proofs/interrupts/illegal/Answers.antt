@@ -1,5 +1,6 @@
-use Rattle.decode.proofs.Ranges.{ill_number}
+use Rattle.std.proofs.Common.{◌∙◌}
+use Rattle.decode.proofs.Ranges.{ill_same}
 use Rattle.isa.proofs.interrupts.illegal.Goals as goal
 
 pub returns : goal.returns
-returns c = rw c.number.ensures (ill_number _)
+returns c = c.eq.ensures ∙ ill_same c.args.i

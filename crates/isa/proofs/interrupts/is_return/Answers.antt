@@ -1,5 +1,6 @@
-use Rattle.decode.proofs.Ranges.{eret_number}
+use Rattle.std.proofs.Common.{◌∙◌}
+use Rattle.decode.proofs.Ranges.{eret_same}
 use Rattle.isa.proofs.interrupts.is_return.Goals as goal
 
 pub returns : goal.returns
-returns c = rw c.number.ensures (eret_number _)
+returns c = c.eq.ensures ∙ eret_same c.args.i

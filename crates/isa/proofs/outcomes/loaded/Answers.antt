@@ -6,11 +6,11 @@ use Rattle.isa.proofs.outcomes.loaded.Goals as goal
 
 pub returns-in-Lb : goal.returns-in-Lb
 unfolding lv d
-returns-in-Lb c = rw (c.extend_byte.ensures, c.in-Lb.is)
+returns-in-Lb c = rw (c.extend.ensures, c.in-Lb.is)
 
 pub returns-in-Lh : goal.returns-in-Lh
 unfolding lv d
-returns-in-Lh c = rw (c.extend_half.ensures, c.in-Lh.is)
+returns-in-Lh c = rw (c.extend-in-Lh.ensures, c.in-Lh.is)
 
 pub returns-in-Lw : goal.returns-in-Lw
 unfolding lv d

@@ -1,41 +1,39 @@
 -- `machine::decide::plan` meets its contract.
 -- Assumes nothing.
-use mathlib.Core.Path.{◌≡◌, refl, sym, ap, ◌∙◌}
-use mathlib.Core.Bool.{true, false}
+use mathlib.Core.Path.{◌≡◌, refl, ap, subst, ◌∙◌}
+use mathlib.Core.Bool.{true}
 use Prim.Native.Nat.{ℕ, ◌+◌, ◌*◌, ◌^◌, ◌<◌, ◌≤◌}
 use mathlib.Core.List.{List}
 use lib.ListN.{length}
 use lib.Dec.{ltb}
 use borrow.Author.Tests.{ltb-true}
-use Rattle.word.proofs.Tests.{true_false}
 use Rattle.word.proofs.Truth.{and_left, and_right}
 use Rattle.layout.specs.Blocks.{block}
 use Rattle.records.specs.Records.{linked}
 use Rattle.tables.specs.Views.{cores_of}
-use Rattle.steps.specs.declared.Step.{Step}
-use Rattle.steps.specs.declared.Step.TheVariants.{TlbCreate}
-use Rattle.machine.specs.Decide.{by_step}
-use Rattle.machine.specs.inner.Split.{formed, is_planned}
+use Rattle.steps.specs.declared.Step.TheVariants.{ByProcessor}
+use Rattle.steps.specs.declared.ProcessorStep.{ProcessorStep}
+use Rattle.steps.specs.declared.ProcessorStep.TheVariants.{TlbCreate}
+use Rattle.machine.specs.Decide.{by_processor}
+use Rattle.machine.specs.inner.Formed.{formed}
 use Rattle.machine.proofs.Fitting.{has, records_sound, chains, quarters}
-use Rattle.machine.proofs.Forms.{found}
 use Rattle.machine.proofs.decide.plan.Goals as goal
 use Rattle.machine.proofs.decide.plan.Goals.{Start}
 
--- what the step of an arm has: a core that is there, its block and its chains; and that it has a plan
-formed_at : (s : Start) {x : Step} → s.args.p ≡ x → formed (cores_of s.args.t.now) x ≡ true
-formed_at s q = found (cores_of s.args.t.now) s.requires.p_value q
+-- what the step of an arm has: a core that is there, its block and its chains
+formed_at : (s : Start) {x : ProcessorStep} → s.args.p ≡ x → formed (cores_of s.args.t.now) (ByProcessor s.args.k x) ≡ true
+formed_at s q = subst (λ (x : ProcessorStep). formed (cores_of s.args.t.now) (ByProcessor s.args.k x) ≡ true) q s.requires.p_value
 
-create_formed : (s : Start) {k va : ℕ} → s.args.p ≡ TlbCreate k va → (ltb k (cores_of s.args.t.now) ≡ true) × (va < 2 ^ 20)
-create_formed s {k} {va} q = let f = formed_at s q in (and_left (ltb k (cores_of s.args.t.now)) _ f, ltb-true va (2 ^ 20) (and_right (ltb k (cores_of s.args.t.now)) _ f))
+create_formed : (s : Start) {va : ℕ} → s.args.p ≡ TlbCreate va → (ltb s.args.k (cores_of s.args.t.now) ≡ true) × (va < 2 ^ 20)
+create_formed s {va} q =
+    let f = formed_at s q in
+    (and_left (ltb s.args.k (cores_of s.args.t.now)) _ f, ltb-true va (2 ^ 20) (and_right (ltb s.args.k (cores_of s.args.t.now)) _ f))
 
 block_in : (s : Start) (k : ℕ) → ltb k (cores_of s.args.t.now) ≡ true → 32 + 256 * k + 256 ≤ length s.args.t.now
 block_in s k h = has s.args.t.now (length s.args.m.now) s.requires.m_value k h
 
 chains_in : (s : Start) (k : ℕ) {b : List ℕ} → ltb k (cores_of s.args.t.now) ≡ true → b ≡ block s.args.t.now k → linked b ≡ true
 chains_in s k h q = ap linked q ∙ chains s.args.t.now (length s.args.m.now) s.requires.m_value k h
-
-no_plan : (s : Start) {x : Step} {A : Type 0} → s.args.p ≡ x → is_planned x ≡ false → A
-no_plan s q f = absurd (true_false (sym s.requires.p_value_2 ∙ ap is_planned q ∙ f))
 
 pub core-requires : goal.core-requires
 core-requires c =
@@ -93,45 +91,21 @@ drain-requires c =
     record { b_len = b.1; b_value = chains_in s _ (formed_at s c.in-StoreBuffer.is) b.0 }
 
 pub returns-in-Core : goal.returns-in-Core
-unfolding by_step
+unfolding by_processor
 returns-in-Core c = rw (c.in-Core.is, c.core.ensures) refl
 
 pub returns-in-TlbCreate : goal.returns-in-TlbCreate
-unfolding by_step
+unfolding by_processor
 returns-in-TlbCreate c = rw (c.in-TlbCreate.is, c.create.ensures, c.block.ensures.0) refl
 
 pub returns-in-TlbExtend : goal.returns-in-TlbExtend
-unfolding by_step
+unfolding by_processor
 returns-in-TlbExtend c = rw (c.in-TlbExtend.is, c.extend.ensures, c.block-in-TlbExtend.ensures.0) refl
 
 pub returns-in-TlbAccessed : goal.returns-in-TlbAccessed
-unfolding by_step
+unfolding by_processor
 returns-in-TlbAccessed c = rw (c.in-TlbAccessed.is, c.accessed.ensures, c.block-in-TlbAccessed.ensures.0) refl
 
 pub returns-in-StoreBuffer : goal.returns-in-StoreBuffer
-unfolding by_step
+unfolding by_processor
 returns-in-StoreBuffer c = rw (c.in-StoreBuffer.is, c.drain.ensures, c.block-in-StoreBuffer.ensures.0) refl
-
-pub returns-in-SendIpi : goal.returns-in-SendIpi
-returns-in-SendIpi c = no_plan (goal.at.returns-in-SendIpi c).Start c.in-SendIpi.is refl
-
-pub returns-in-SendEoi : goal.returns-in-SendEoi
-returns-in-SendEoi c = no_plan (goal.at.returns-in-SendEoi c).Start c.in-SendEoi.is refl
-
-pub returns-in-InitCore : goal.returns-in-InitCore
-returns-in-InitCore c = no_plan (goal.at.returns-in-InitCore c).Start c.in-InitCore.is refl
-
-pub returns-in-StartCore : goal.returns-in-StartCore
-returns-in-StartCore c = no_plan (goal.at.returns-in-StartCore c).Start c.in-StartCore.is refl
-
-pub returns-in-Sample : goal.returns-in-Sample
-returns-in-Sample c = no_plan (goal.at.returns-in-Sample c).Start c.in-Sample.is refl
-
-pub returns-in-Deliver : goal.returns-in-Deliver
-returns-in-Deliver c = no_plan (goal.at.returns-in-Deliver c).Start c.in-Deliver.is refl
-
-pub returns-in-SetLine : goal.returns-in-SetLine
-returns-in-SetLine c = no_plan (goal.at.returns-in-SetLine c).Start c.in-SetLine.is refl
-
-pub returns-in-NotAStep : goal.returns-in-NotAStep
-returns-in-NotAStep c = no_plan (goal.at.returns-in-NotAStep c).Start c.in-NotAStep.is refl

@@ -4,10 +4,10 @@ use Rattle.machine.proofs.Running.{same_result, not_sound_run, not_whole_run, wh
 use Rattle.machine.proofs.run.run.Goals as goal
 
 pub returns-then-not-sound : goal.returns-then-not-sound
-returns-then-not-sound c = same_result c.result.ensures refl refl (not_sound_run c.args.t.now c.args.m.now c.args.schedule.now c.args.limit (sym c.sound.ensures ∙ c.if-not-sound.true))
+returns-then-not-sound c = same_result c.new.ensures refl refl (not_sound_run c.args.t.now c.args.m.now c.args.schedule.now c.args.limit (sym c.sound.ensures ∙ c.if-not-sound.true))
 
 pub returns-then-schedule : goal.returns-then-schedule
-returns-then-schedule c = same_result c.result-then-schedule.ensures refl refl (not_whole_run c.args.t.now c.args.m.now c.args.schedule.now c.args.limit (sym c.sound.ensures ∙ c.if-not-sound.false) (ap not c.if-schedule.true))
+returns-then-schedule c = same_result c.new-then-schedule.ensures refl refl (not_whole_run c.args.t.now c.args.m.now c.args.schedule.now c.args.limit (sym c.sound.ensures ∙ c.if-not-sound.false) (ap not c.if-schedule.true))
 
 pub steps-requires : goal.steps-requires
 steps-requires c = record { m_value = sym c.sound.ensures ∙ c.if-not-sound.false; schedule_value = ap not c.if-schedule.false }

@@ -1,22 +1,16 @@
-use native.Mathlib.Omega.{arith}
-use mathlib.Core.Path.{◌≡◌, ap}
-use Rattle.text.proofs.Texts.{none, reworded}
+use Rattle.std.proofs.Common.{refl, ap, length, arith}
+use Rattle.std.proofs.lemmas.List.{length_push}
+use Rattle.text.proofs.Texts.{grown, as_it_was}
 use Rattle.picture.specs.Pages.{mark_row}
 use Rattle.picture.proofs.Marks.{marks_more}
 use Rattle.picture.proofs.pages.put_marks.Goals as goal
 
 pub loop-i-init : goal.loop-i-init
 unfolding mark_row
-loop-i-init c = (none _ _, omega arith)
-
-pub bounds-out-at : goal.bounds-out-at
-bounds-out-at c = omega (arith, c.loop-i.invariant.0.kept)
+loop-i-init g c = (as_it_was _ refl, omega arith)
 
 pub loop-i-preserved : goal.loop-i-preserved
-loop-i-preserved c = (marks_more _ _ _ _ _ _ _ _ c.loop-i.invariant.0 (omega (arith, c.loop-i.invariant.0.kept)) c.mark.ensures, omega arith)
-
-pub shape_of-out : goal.shape_of-out
-shape_of-out c = c.loop-i.invariant.0.kept
-
-pub returns : goal.returns
-returns c = let e : c.loop-i.i ≡ c.args.n = omega arith in (reworded (ap (mark_row _ _ _) e) c.loop-i.invariant.0, omega arith)
+loop-i-preserved g c = (
+  grown _ _ _ c.loop-i.invariant.0 c.put_byte.ensures (marks_more _ _ _ c.loop-i.i c.mark.ensures),
+  omega (arith, ap length c.put_byte.ensures, length_push c.loop-i.text c.mark.result, c.loop-i.invariant.1),
+)

@@ -1,10 +1,9 @@
-use Prim.Native.Nat.{◌+◌, ◌*◌, ◌-◌, ◌≤◌}
-use Rattle.text.specs.Text.{Put}
-use Rattle.picture.specs.Pages as pages
+use mathlib.Core.Path.{◌≡◌}
+use mathlib.Core.List.{◌++◌}
+use Prim.Native.Nat.{◌+◌, ◌*◌, ◌≤◌}
+use lib.ListN.{length}
+use Rattle.picture.specs.Pages.{rows}
 use Rattle.picture.proofs.pages.put_picture.Given as goal
 
 abbrev pub invariant-loop-n : goal.invariant-loop-n
-invariant-loop-n l = Put l.initial.out l.at (pages.rows l.own l.other l.n) l.p l.out × (l.n ≤ l.rows) × (l.p ≤ l.at + 86 * l.n)
-
-abbrev pub decreases-loop-n : goal.decreases-loop-n
-decreases-loop-n l = l.rows - l.n
+invariant-loop-n g l = (l.text ≡ l.initial.text ++ rows l.own l.other l.n) × (length l.text ≤ length l.initial.text + 86 * l.n)

@@ -1,12 +1,8 @@
 -- `reach::marks::pass` meets its contract. The invariant: what the tables below p name is marked.
 -- Assumes nothing.
-use Prim.Native.Nat.{◌-◌, ◌≤◌}
 use Rattle.reach.specs.inner.Marks.{Marked, marked_names}
 use Rattle.reach.proofs.Marking.{names_to}
 use Rattle.reach.proofs.marks.pass.Given as goal
 
 abbrev pub invariant-loop-p : goal.invariant-loop-p
-invariant-loop-p l = (l.p ≤ l.pages) × Marked l.pages l.initial.s l.s l.beyond (names_to (marked_names l.kind l.m l.initial.s) l.p)
-
-abbrev pub decreases-loop-p : goal.decreases-loop-p
-decreases-loop-p l = l.pages - l.p
+invariant-loop-p l = Marked l.pages l.initial.s l.s l.beyond (names_to (marked_names l.kind l.m l.initial.s) l.p)

@@ -4,18 +4,18 @@ use Rattle.reach.proofs.Marking.{loop_start, scan_next, scan_end, marked_long}
 use Rattle.reach.proofs.marks.scan.Goals as goal
 
 pub loop-i-init : goal.loop-i-init
-loop-i-init c = (omega arith, loop_start _ _ _)
+loop-i-init c = loop_start _ _ _
 
 pub mark_four-beyond-requires : goal.mark_four-beyond-requires
-mark_four-beyond-requires c = (marked_long c.loop-i.invariant.1 ∙ c.requires.s_len.0, c.requires.s_len.1, c.requires.s_len.2, omega arith)
+mark_four-beyond-requires c = (marked_long c.loop-i.invariant ∙ c.requires.s_len.0, c.requires.s_len.1, c.requires.s_len.2, omega arith)
 
 pub loop-i-preserved : goal.loop-i-preserved
 loop-i-preserved c =
     let l = c.loop-i in
-    (omega arith, scan_next _ _ _ _ _ _ _ _ c.args.p l.i c.requires.m_len.0 c.requires.s_len.1 c.requires.m_len.1 c.loop-i-test.true l.invariant.1 c.mark_four-beyond.ensures)
+    scan_next _ _ _ _ _ _ _ _ c.args.p l.i c.requires.m_len.0 c.requires.s_len.1 c.requires.m_len.1 c.loop-i-test.true l.invariant c.mark_four-beyond.ensures
 
 pub shape_of-s : goal.shape_of-s
-shape_of-s c = marked_long c.loop-i.invariant.1
+shape_of-s c = marked_long c.loop-i.invariant
 
 pub returns : goal.returns
-returns c = scan_end _ _ _ _ _ _ _ _ (omega arith) c.loop-i.invariant.1
+returns c = scan_end _ _ _ _ _ _ _ _ (omega arith) c.loop-i.invariant

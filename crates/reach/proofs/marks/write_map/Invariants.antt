@@ -1,12 +1,8 @@
 -- `reach::marks::write_map` meets its contract. The invariant: the map is written below p.
 -- Assumes nothing.
-use Prim.Native.Nat.{◌-◌}
 use Rattle.reach.specs.inner.Marks.{byte_of}
 use Rattle.reach.proofs.Passes.{Mapping}
 use Rattle.reach.proofs.marks.write_map.Given as goal
 
 abbrev pub invariant-loop-p : goal.invariant-loop-p
 invariant-loop-p l = Mapping (byte_of l.s) l.pages l.map l.p
-
-abbrev pub decreases-loop-p : goal.decreases-loop-p
-decreases-loop-p l = l.pages - l.p

@@ -1,11 +1,8 @@
--- `reach::roots::mark_chain` meets its contract. The invariant: what is done and what is left of the chain is the whole.
+-- `reach::roots::mark_chain` meets its contract. The invariant: what the records so far name is marked.
 -- Assumes nothing.
-use Rattle.reach.specs.inner.Marks.{record_name}
-use Rattle.reach.proofs.Chains.{Chaining}
+use mathlib.Core.List.{flat_map}
+use Rattle.reach.specs.inner.Marks.{Marked, named_by}
 use Rattle.reach.proofs.roots.mark_chain.Given as goal
 
-abbrev pub invariant-loop-k : goal.invariant-loop-k
-invariant-loop-k l = Chaining l.pages (record_name l.store l.b) l.b l.head l.initial.s l.s l.beyond l.n l.k
-
-abbrev pub decreases-loop-k : goal.decreases-loop-k
-decreases-loop-k l = l.k
+abbrev pub invariant-loop-record : goal.invariant-loop-record
+invariant-loop-record l = Marked l.pages l.initial.s l.s l.beyond (flat_map (named_by l.store) l.yielded)

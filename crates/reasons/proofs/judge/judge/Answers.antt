@@ -1,28 +1,17 @@
 -- `reasons::judge::judge` meets its contract. Two arrays of 4,096 bytes have room for a map each.
 -- Assumes nothing.
-use mathlib.Core.Path.{sym}
-use native.Mathlib.Omega.{arith}
-use Rattle.tables.proofs.Lift.{header}
-use Rattle.separation.proofs.Deciding.{room}
+use mathlib.Core.Path.{ap, ◌∙◌}
+use mathlib.Core.List.{List}
+use Prim.Native.Nat.{ℕ, ◌-◌}
+use Rattle.reasons.specs.Why.{first_after}
 use Rattle.reasons.proofs.judge.judge.Goals as goal
 
-pub bounds-t-1 : goal.bounds-t-1
-bounds-t-1 c = omega (arith, (header _ _ c.requires).long)
-
-pub overflow_cast-pages : goal.overflow_cast-pages
-overflow_cast-pages c = record { fits = omega (arith, (header _ _ c.requires).few_pages) }
-
-pub slice_bounds-own-end : goal.slice_bounds-own-end
-slice_bounds-own-end c = omega (arith, (header _ _ c.requires).few_pages)
-
-pub slice_bounds-with_maps-end : goal.slice_bounds-with_maps-end
-slice_bounds-with_maps-end c = sym (room _ (header _ _ c.requires).few_pages)
-
-pub slice_bounds-other-end : goal.slice_bounds-other-end
-slice_bounds-other-end c = omega (arith, (header _ _ c.requires).few_pages)
-
-pub slice_bounds-with_maps-end-2 : goal.slice_bounds-with_maps-end-2
-slice_bounds-with_maps-end-2 c = sym (room _ (header _ _ c.requires).few_pages)
-
-pub with_maps-requires : goal.with_maps-requires
-with_maps-requires c = let h = header _ _ c.requires in record { m_value = c.requires; own_len = (room _ h.few_pages, room _ h.few_pages) }
+pub returns : goal.returns
+returns c =
+    let a = c.args in
+    let S = c.new-sides.result in
+    let e = c.new-sides.ensures in
+    c.first_after.ensures
+    ∙ ap (λ (g : ℕ). first_after g S.machine.tables.now S.machine.memory.now (6 - a.after) a.after) e.2
+    ∙ ap (λ (t : List ℕ). first_after a.group t S.machine.memory.now (6 - a.after) a.after) e.0
+    ∙ ap (λ (m : List ℕ). first_after a.group a.machine.now.tables.now m (6 - a.after) a.after) e.1

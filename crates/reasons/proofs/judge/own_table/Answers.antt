@@ -1,7 +1,6 @@
 -- `reasons::judge::own_table` meets its contract.
 -- Assumes nothing.
 use mathlib.Core.Path.{◌∙◌, ap}
-use native.Mathlib.Omega.{arith}
 use lib.ListN.{length}
 use Rattle.tables.specs.Views.{cores_of}
 use Rattle.reach.specs.Reach.{members}
@@ -9,7 +8,7 @@ use Rattle.reasons.proofs.Reasons.{table_is, map_size}
 use Rattle.reasons.proofs.judge.own_table.Goals as goal
 
 pub at_fault-requires : goal.at_fault-requires
-at_fault-requires c = let l = ap length c.requires.map_value ∙ map_size (members c.args.group (cores_of c.args.t.now)) c.args.t.now c.args.m.now in record { m_value = (c.requires.m_value, omega arith, omega arith); own_len = (l, l) }
+at_fault-requires c = let l = ap length c.requires.map_value ∙ map_size (members c.args.group (cores_of c.args.machine.now.tables.now)) c.args.machine.now.tables.now c.args.machine.now.memory.now in (l, l)
 
 pub returns : goal.returns
-returns c = c.at_fault.ensures ∙ table_is (members c.args.group (cores_of c.args.t.now)) c.args.t.now c.args.m.now c.args.map.now c.requires.map_value
+returns c = c.at_fault.ensures ∙ table_is (members c.args.group (cores_of c.args.machine.now.tables.now)) c.args.machine.now.tables.now c.args.machine.now.memory.now c.args.map.now c.requires.map_value

@@ -10,4 +10,4 @@ use Rattle.reasons.proofs.judge.way_to.Goals as goal
 pub returns : goal.returns
 returns c =
     let a = c.args in
-    c.find.ensures ∙ itself_is a.page (pages_of a.t.now) a.map.now (ways (members a.group (cores_of a.t.now)) a.t.now a.m.now)
+    c.find.ensures ∙ itself_is a.page (pages_of a.machine.now.tables.now) a.map.now (ways (members a.group (cores_of a.machine.now.tables.now)) a.machine.now.tables.now a.machine.now.memory.now)

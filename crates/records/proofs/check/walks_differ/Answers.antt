@@ -1,65 +1,38 @@
-use mathlib.Core.Path.{refl, sym, ◌∙◌}
-use Prim.Native.Nat.{◌<◌}
-use native.Mathlib.Omega.{arith}
-use Rattle.records.specs.Records.{walks}
-use Rattle.records.proofs.Fold.{left_low, left_lows, sift_zero, sift_out, sift_hit, sift_miss}
+use mathlib.Core.Path.{◌≡◌, sym, ap, ◌∙◌}
+use mathlib.Core.Bool.{Bool, true, false, not, ◌&&◌}
+use mathlib.Core.List.{map}
+use borrow.Author.Rules.{rules}
+use borrow.Author.Tests.{tests}
+use Rattle.std.proofs.lemmas.Iterator.{cases_from_any}
+use Rattle.std.proofs.lemmas.Iterator.Consumers.{YieldsList-from_first}
+use Rattle.records.specs.Records.{walks, same, among, differing}
+use Rattle.records.specs.inner.Chains.{records_from, walk_of}
+use Rattle.records.proofs.Iterate.{any_among, walk_in_of, differ_first, differ_none}
 use Rattle.records.proofs.check.walks_differ.Goals as goal
-use Rattle.records.proofs.check.walks_differ.Goals.{Else-n-eq0}
+use Rattle.records.proofs.check.walks_differ.Goals.{After-any}
 
--- a record on the chain is below 32
-low : (c : Else-n-eq0) → c.loop-k.n < 32
-low c = left_low c.loop-k.invariant.left c.loop-k-test.true c.if-n-eq0.false
+-- what `any` says of the records after this one
+asked : (c : After-any) → c.any.result ≡ among (walk_of c.in-Some.record) (map walk_of (records_from c.next.new.self.block.now c.next.new.self.left c.next.new.self.next))
+asked c =
+    any_among (walk_of c.in-Some.record) _ c.any.result
+    (cases_from_any c.any.new.self _ c.any.result (λ x. same (walk_of x) (walk_of c.in-Some.record) ≡ true) (λ x. same (walk_of x) (walk_of c.in-Some.record) ≡ false) c.any.ensures.ran
+    (YieldsList-from_first (λ x. x) (λ s. records_from s.block.now s.left s.next) _ (search rules)) (λ x q k. search (rules, tests)) (λ x q k. search (rules, tests)))
 
-pub loop-k-init : goal.loop-k-init
-loop-k-init c = record { left = record { low = c.requires.b_value; same = refl } }
-
-pub returns-then-n-eq0 : goal.returns-then-n-eq0
+pub loop-record-init : goal.loop-record-init
 unfolding walks
-returns-then-n-eq0 c = sift_zero c.loop-k.invariant c.if-n-eq0.true
+loop-record-init c = ap (λ l. differing (map walk_of l)) c.at-rest.ensures ∙ ap differing (walk_in_of _ _)
 
-pub overflow_cast-i : goal.overflow_cast-i
-overflow_cast-i c = omega (arith, low (goal.at.overflow_cast-i c).Else-n-eq0)
+pub returns-then-any : goal.returns-then-any
+returns-then-any c =
+    ap (λ (t : Bool). not t && differing (map walk_of (records_from c.next.new.self.block.now c.next.new.self.left c.next.new.self.next))) (sym c.if-any.true)
+    ∙ sym (differ_first c.in-Some.record _ _ c.in-Some.ensures.steps (asked (goal.at.returns-then-any c).After-any))
+    ∙ c.loop-record.invariant
 
-pub overflow_mul-i : goal.overflow_mul-i
-overflow_mul-i c = omega (arith, low (goal.at.overflow_mul-i c).Else-n-eq0)
-
-pub overflow_add-i : goal.overflow_add-i
-overflow_add-i c = omega (arith, low (goal.at.overflow_add-i c).Else-n-eq0)
-
-pub offset_bounds-b-i : goal.offset_bounds-b-i
-offset_bounds-b-i c = omega (arith, low (goal.at.offset_bounds-b-i c).Else-n-eq0)
-
-pub bounds-b-i : goal.bounds-b-i
-bounds-b-i c = omega (arith, low (goal.at.bounds-b-i c).Else-n-eq0)
-
-pub overflow_add-first : goal.overflow_add-first
-overflow_add-first c = omega (arith, low (goal.at.overflow_add-first c).Else-n-eq0)
-
-pub offset_bounds-b-i-in-loop-k : goal.offset_bounds-b-i-in-loop-k
-offset_bounds-b-i-in-loop-k c = omega (arith, low (goal.at.offset_bounds-b-i-in-loop-k c).Else-n-eq0)
-
-pub bounds-b-i-in-loop-k : goal.bounds-b-i-in-loop-k
-bounds-b-i-in-loop-k c = omega (arith, low (goal.at.bounds-b-i-in-loop-k c).Else-n-eq0)
-
-pub overflow_add-second : goal.overflow_add-second
-overflow_add-second c = omega (arith, low (goal.at.overflow_add-second c).Else-n-eq0)
-
-pub offset_bounds-b-i-in-loop-k-2 : goal.offset_bounds-b-i-in-loop-k-2
-offset_bounds-b-i-in-loop-k-2 c = omega (arith, low (goal.at.offset_bounds-b-i-in-loop-k-2 c).Else-n-eq0)
-
-pub bounds-b-i-in-loop-k-2 : goal.bounds-b-i-in-loop-k-2
-bounds-b-i-in-loop-k-2 c = omega (arith, low (goal.at.bounds-b-i-in-loop-k-2 c).Else-n-eq0)
-
-pub walk_from-requires : goal.walk_from-requires
-walk_from-requires c = record { b_len = c.requires.b_len; start_value = left_lows c.loop-k.invariant.left c.loop-k-test.true c.if-n-eq0.false }
-
-pub returns-then-walk_from : goal.returns-then-walk_from
-unfolding walks
-returns-then-walk_from c = sift_hit c.loop-k.invariant c.loop-k-test.true c.if-n-eq0.false (sym c.if-walk_from.true ∙ c.walk_from.ensures)
-
-pub loop-k-preserved : goal.loop-k-preserved
-loop-k-preserved c = sift_miss c.loop-k.invariant c.loop-k-test.true c.if-n-eq0.false (sym c.if-walk_from.false ∙ c.walk_from.ensures)
+pub loop-record-preserved : goal.loop-record-preserved
+loop-record-preserved c =
+    ap (λ (t : Bool). not t && differing (map walk_of (records_from c.next.new.self.block.now c.next.new.self.left c.next.new.self.next))) (sym c.if-any.false)
+    ∙ sym (differ_first c.in-Some.record _ _ c.in-Some.ensures.steps (asked (goal.at.loop-record-preserved c).After-any))
+    ∙ c.loop-record.invariant
 
 pub returns : goal.returns
-unfolding walks
-returns c = sift_out c.loop-k.invariant c.loop-k-test.false
+returns c = differ_none _ c.in_default.ensures.steps.0 ∙ c.loop-record.invariant

@@ -1,4 +1,4 @@
-use mathlib.Core.Path.{refl, sym, ap, ap₂, ◌∙◌}
+use mathlib.Core.Path.{sym, ap, ap₂, ◌∙◌}
 use mathlib.Core.Bool.{◌&&◌}
 use Prim.Native.Nat.{ℕ}
 use native.Mathlib.Omega.{arith}
@@ -9,10 +9,10 @@ use Rattle.separation.proofs.Deciding.{all_none, all_next}
 use Rattle.separation.proofs.sides.all_in_user_mode.Goals as goal
 
 pub loop-k-init : goal.loop-k-init
-loop-k-init c = (refl, (omega arith, sym (all_none _)))
+loop-k-init c = sym (all_none _)
 
 pub loop-k-preserved : goal.loop-k-preserved
-loop-k-preserved c = (c.loop-k.invariant.0, (omega arith, ap₂ ◌&&◌ c.loop-k.invariant.1.1 c.passes-good.ensures ∙ sym (all_next _ c.loop-k.k)))
+loop-k-preserved c = ap₂ ◌&&◌ c.loop-k.invariant c.passes-good.ensures ∙ sym (all_next _ c.loop-k.k)
 
 pub returns : goal.returns
-returns c = c.loop-k.invariant.1.1 ∙ ap (λ (n : ℕ). all (passes c.args.group c.args.t.now) (range n)) (omega arith)
+returns c = c.loop-k.invariant ∙ ap (λ (n : ℕ). all (passes c.args.group c.args.machine.now.tables.now) (range n)) (omega (arith, c.cores-k-end.ensures))

@@ -1,7 +1,6 @@
 -- `separation::sides::pages_apart` meets its contract. The loop: what is gathered is the test of the pages passed.
 -- Assumes nothing.
 use mathlib.Core.Path.{◌≡◌}
-use Prim.Native.Nat.{◌≤◌, ◌-◌}
 use lib.ListN.{get_or}
 use Rattle.records.specs.Records.{all}
 use Rattle.reach.specs.Lists.{range}
@@ -9,7 +8,4 @@ use Rattle.separation.specs.inner.Sides.{page_apart}
 use Rattle.separation.proofs.sides.pages_apart.Given as goal
 
 abbrev pub invariant-loop-i : goal.invariant-loop-i
-invariant-loop-i l = (l.i ≤ l.pages) × (l.good ≡ all (λ j. page_apart (get_or l.own j 0) (get_or l.other j 0)) (range l.i))
-
-abbrev pub decreases-loop-i : goal.decreases-loop-i
-decreases-loop-i l = l.pages - l.i
+invariant-loop-i l = l.good ≡ all (λ j. page_apart (get_or l.own j 0) (get_or l.other j 0)) (range l.i)

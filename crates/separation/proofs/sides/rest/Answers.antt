@@ -11,27 +11,20 @@ use Rattle.separation.proofs.sides.rest.Goals as goal
 
 pub loop-k-init : goal.loop-k-init
 unfolding rest_below
-loop-k-init c = (refl, (omega arith, refl))
-
-pub runs-requires : goal.runs-requires
-runs-requires c = c.block.ensures.1
+loop-k-init c = refl
 
 pub put_bit-r-requires : goal.put_bit-r-requires
-put_bit-r-requires c = (omega arith, search (rules, byte_small))
+put_bit-r-requires c = (omega (arith, c.cores-k-end.ensures), search (rules, byte_small))
 
 pub loop-k-preserved : goal.loop-k-preserved
-loop-k-preserved c = (
-  c.loop-k.invariant.0,
-  (
-    omega arith,
-    rest_put c.args.group c.args.t.now c.loop-k.k c.is_member.ensures (c.runs.ensures ∙ ap runs c.block.ensures.0) c.put_bit-r.ensures
-        c.loop-k.invariant.1.1,
-  ),
-)
+loop-k-preserved c =
+    rest_put c.args.group c.args.machine.now.tables.now c.loop-k.k c.is_member.ensures (c.runs.ensures ∙ ap runs c.block.ensures.value.0) c.put_bit-r.ensures
+    c.loop-k.invariant
 
 pub returns : goal.returns
 returns c =
     let a = c.args in
-    let e : c.loop-k.k ≡ cores_of a.t.now = omega arith in
-    let r = c.loop-k.invariant.1.1 ∙ ap (rest_below a.group a.t.now) e in
-    record { value = r; t_value = ap (λ (n : ℕ). members n (cores_of a.t.now)) r ∙ rest_members a.group a.t.now }
+    let t = a.machine.now.tables.now in
+    let e : c.loop-k.k ≡ cores_of t = omega (arith, c.cores-k-end.ensures) in
+    let r = c.loop-k.invariant ∙ ap (rest_below a.group t) e in
+    record { value = r; members = ap (λ (n : ℕ). members n (cores_of t)) r ∙ rest_members a.group t }

@@ -18,8 +18,8 @@ chain_records-requires c = simp length-set (omega arith)
 
 pub shape_of-b : goal.shape_of-b
 shape_of-b c =
-    ap (λ (l : List ℕ). length l) (c.chain_records.ensures ∙ block_made _ _ c.args.k c.requires.0 c.clear.ensures)
+    ap (λ (l : List ℕ). length l) (c.chain_records.ensures ∙ block_made _ _ c.args.k c.requires.0 (c.fill.ensures.after (λ y e. e)))
     ∙ block_long c.args.k ∙ sym c.requires.0
 
 pub returns : goal.returns
-returns c = c.chain_records.ensures ∙ block_made _ _ _ c.requires.0 c.clear.ensures
+returns c = c.chain_records.ensures ∙ block_made _ _ _ c.requires.0 (c.fill.ensures.after (λ y e. e))

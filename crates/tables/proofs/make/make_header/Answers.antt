@@ -9,4 +9,4 @@ pub bounds-tables-1 : goal.bounds-tables-1
 bounds-tables-1 c = simp length-set (omega arith)
 
 pub returns : goal.returns
-returns c = header_made _ c.args.tables.now _ _ c.requires c.clear.ensures
+returns c = header_made _ c.args.tables.now _ _ c.requires (c.fill.ensures.after (λ y e. e))

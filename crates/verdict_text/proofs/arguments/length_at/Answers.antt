@@ -1,15 +1,17 @@
 use native.Mathlib.Omega.{arith}
-use Rattle.verdict_text.proofs.Named.{long_start, long_more, long_zero, long_last}
+use mathlib.Core.Path.{◌≡◌, subst}
+use lib.ListN.{length}
+use Rattle.verdict_text.proofs.Named.{LongTo, long_more, long_zero, long_last}
 use Rattle.verdict_text.proofs.arguments.length_at.Goals as goal
 
-pub loop-end-init : goal.loop-end-init
-loop-end-init c = (omega arith, omega arith, long_start c.args.a.now c.args.at)
-
 pub returns-then-a-end-eq0 : goal.returns-then-a-end-eq0
-returns-then-a-end-eq0 c = (omega arith, long_zero _ _ _ c.loop-end.invariant.2 c.loop-end-test.true c.if-a-end-eq0.true)
+returns-then-a-end-eq0 c = (omega arith, long_zero _ _ _ c.loop-end.invariant c.loop-end-test.true c.if-a-end-eq0.true)
 
 pub loop-end-preserved : goal.loop-end-preserved
-loop-end-preserved c = (omega arith, omega arith, long_more _ _ _ c.loop-end.invariant.2 c.loop-end-test.true c.loop-end.invariant.0 c.if-a-end-eq0.false)
+loop-end-preserved c = long_more _ _ _ c.loop-end.invariant c.loop-end-test.true (omega arith) c.if-a-end-eq0.false
 
 pub returns : goal.returns
-returns c = (omega arith, long_last _ _ _ c.loop-end.invariant.2 c.loop-end-test.false)
+returns c =
+    let a = c.args.a.now in
+    let e : c.loop-end.end ≡ length a = omega (arith, c.loop-end.auto.end-end c.requires) in
+    (omega arith, long_last a c.args.at (length a) (subst (LongTo a c.args.at) e c.loop-end.invariant) (omega arith))

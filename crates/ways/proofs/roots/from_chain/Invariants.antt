@@ -1,11 +1,11 @@
--- `ways::roots::from_chain` meets its contract. The invariant: what is done and what is left of the chain is the whole.
+-- `ways::roots::from_chain` meets its contract. The invariant: the ways from the records so far are searched.
 -- Assumes nothing.
-use Rattle.ways.specs.inner.Search.{wanted, record_ways}
-use Rattle.ways.proofs.Blocks.{Chaining}
+use mathlib.Core.List.{flat_map}
+use Rattle.ways.specs.inner.Search.{looked_for, Searched}
+use Rattle.ways.proofs.Blocks.{record_from}
 use Rattle.ways.proofs.roots.from_chain.Given as goal
 
-abbrev pub invariant-loop-fuel : goal.invariant-loop-fuel
-invariant-loop-fuel l = Chaining (wanted l.want l.pages l.map) l.m (record_ways l.m l.b l.k l.store) l.b l.head l.initial.found l.initial.seen l.found l.seen l.n l.fuel
-
-abbrev pub decreases-loop-fuel : goal.decreases-loop-fuel
-decreases-loop-fuel l = l.fuel
+abbrev pub invariant-loop-record : goal.invariant-loop-record
+invariant-loop-record l =
+    Searched (looked_for l.query) l.query.machine.memory.now l.initial.found l.initial.seen l.found l.seen
+    (flat_map (record_from (looked_for l.query) l.query.machine.memory.now l.k l.store) l.yielded)

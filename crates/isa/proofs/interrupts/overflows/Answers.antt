@@ -1,4 +1,0 @@
-use Rattle.isa.proofs.interrupts.overflows.Goals as goal
-
-pub returns : goal.returns
-returns c = rw (c.overflow.ensures, c.right_operand.ensures, c.is_rtype-rtype.ensures)

@@ -1,6 +1,0 @@
-use native.Mathlib.Omega.{arith}
-use Rattle.text.proofs.Texts.{follow}
-use Rattle.verdict_text.proofs.wrong.put_between.Goals as goal
-
-pub returns : goal.returns
-returns c = (follow (follow c.put-p.ensures c.put_number-q.ensures.0) c.put.ensures, omega (arith, c.put-p.ensures.place, c.put_number-q.ensures.1, c.put.ensures.place))
