@@ -18,9 +18,12 @@ use Rattle.records.specs.Records.{all, level_of, walk_in, walk_numbers, store_nu
 use Rattle.tables.specs.Views.{cores_of, pages_of}
 use Rattle.tables.specs.Sound.{sound}
 use Rattle.tables.proofs.Lift.{header}
+use Rattle.reach.specs.declared.roots.Content.{Content}
+use Rattle.reach.specs.declared.roots.Content.TheVariants.{Walks, Stores}
 use Rattle.reach.specs.Lists.{range, has, select}
 use Rattle.reach.specs.Reach.{members, any_rights, grants_write, named, first_pages, second_pages, data_pages, writable_pages, reach, in_memory, map_byte, map_for}
-use Rattle.reach.specs.inner.Marks.{Name, name, marks, strays, Marked, is_marked, is_written, byte_of, walk_name, record_name, core_names, member_names, root_names, entry_names, pass_names}
+use Rattle.reach.specs.declared.marks.Marks.{Marks}
+use Rattle.reach.specs.inner.Marks.{Name, name, marks, strays, Blank, Marked, is_marked, is_written, byte_of, walk_name, record_name, core_names, member_names, root_names, entry_names, pass_names}
 use Rattle.reach.proofs.Lists.{Each, each_append, each_flat_map, if_both, has_append, all_append, all_same, flat_map_below, map_same, range_in}
 use Rattle.reach.proofs.Marking.{marks_long}
 use Rattle.reach.proofs.Sets.{Proper, of_kind, written, pages_with, with_none, with_cons, with_append, marks_marked, marks_written}
@@ -35,18 +38,18 @@ unfolding walk_name
 walk_proper first second =
     if_both (Each Proper) (ltb (level_of first) 3) (name (2 - level_of first) second (first % 2) ∷ []) [] (λ _. ((omega arith, omega arith), tt)) (λ _. tt)
 
-record_proper : (s : Bool) (b : List ℕ) (i : ℕ) → Each Proper (record_name s b i)
+record_proper : (s : Content) (b : List ℕ) (i : ℕ) → Each Proper (record_name s b i)
 unfolding record_name
-record_proper true b i = ((omega arith, omega arith), tt)
-record_proper false b i = walk_proper (walk_in b i).first (walk_in b i).second
+record_proper Stores b i = ((omega arith, omega arith), tt)
+record_proper Walks b i = walk_proper (walk_in b i).first (walk_in b i).second
 
 core_proper : (b : List ℕ) → Each Proper (core_names b)
 unfolding core_names
 core_proper b = (
   (omega arith, omega arith),
-  each_append Proper (flat_map (record_name false b) (walk_numbers b)) (flat_map (record_name true b) (store_numbers b))
-      (each_flat_map Proper (record_name false b) (walk_numbers b) (record_proper false b))
-      (each_flat_map Proper (record_name true b) (store_numbers b) (record_proper true b)),
+  each_append Proper (flat_map (record_name Walks b) (walk_numbers b)) (flat_map (record_name Stores b) (store_numbers b))
+      (each_flat_map Proper (record_name Walks b) (walk_numbers b) (record_proper Walks b))
+      (each_flat_map Proper (record_name Stores b) (store_numbers b) (record_proper Stores b)),
 )
 
 root_proper : (g : ℕ) (t : List ℕ) (n : ℕ) → Each Proper (root_names g t n)
@@ -155,7 +158,16 @@ reorder false false false true e = refl
 reorder false false false false true = refl
 reorder false false false false false = refl
 
-module _ (t m : List ℕ) (g : ℕ) (e : sound t (length m) ≡ true) (words : Words t) (bytes : Bytes m) (z : List ℕ) (size : length z ≡ 24576) (blank : (i : ℕ) → get_or z i 0 ≡ 0) where
+module _ (t m : List ℕ) (g : ℕ) (e : sound t (length m) ≡ true) (words : Words t) (bytes : Bytes m) where
+  abbrev z : List ℕ
+  z = replicate 24576 0
+
+  size : length z ≡ 24576
+  size = length-replicate {A = ℕ} 24576 0
+
+  blank : (i : ℕ) → get_or z i 0 ≡ 0
+  blank i = either (dec_lt i 24576) (λ h. get_or-replicate {A = ℕ} 24576 i 0 0 h) (λ h. get_or-eq_default z 0 {n = i} (omega (arith, size)))
+
   abbrev n : ℕ
   n = pages_of t
 
@@ -327,26 +339,42 @@ module _ (t m : List ℕ) (g : ℕ) (e : sound t (length m) ≡ true) (words : W
       ∙ sym (outside_append n (first_pages cs t ++ second_pages cs t m) (data_pages cs t m ++ writable_pages cs t m) ∙ ap₂ ◌||◌ outside_tables outside_data)
 
   -- the code's marks, one call after the other
-  module _ (a b c : List ℕ) (p q r : Bool) (A : Marked n z a p R) (B : Marked n a b q (pass_names n 0 m a)) (C : Marked n b c r (pass_names n 1 m b)) where
-    after₂ : b ≡ s₂
-    after₂ = B.left ∙ ap (λ (s : List ℕ). marks n s (pass_names n 0 m s)) A.left
+  module _ (o a b c : Marks) (O : Blank n m o) (A : Marked o a R) (B : Marked a b (pass_names a.pages 0 a.memory.now a.bytes)) (C : Marked b c (pass_names b.pages 1 b.memory.now b.bytes)) where
+    pages₁ : a.pages ≡ n
+    pages₁ = A.pages ∙ O.pages
 
-    after₃ : c ≡ s₃
-    after₃ = C.left ∙ ap (λ (s : List ℕ). marks n s (pass_names n 1 m s)) after₂
+    pages₂ : b.pages ≡ n
+    pages₂ = B.pages ∙ pages₁
 
-    pub filled_map : (o : List ℕ) → o ≡ map (byte_of c) (range n) → o ≡ map_for cs t m
-    filled_map o h = h ∙ ap (λ (s : List ℕ). map (byte_of s) (range n)) after₃ ∙ map_is
+    memory₁ : a.memory.now ≡ m
+    memory₁ = A.memory ∙ O.memory
 
-    pub filled_beyond : p || (q || r) ≡ not (in_memory (reach cs t m) n)
-    filled_beyond =
-        ap₂ ◌||◌ A.beyond (ap₂ ◌||◌ (B.beyond ∙ ap (λ (s : List ℕ). strays n (pass_names n 0 m s)) A.left) (C.beyond ∙ ap (λ (s : List ℕ). strays n (pass_names n 1 m s)) after₂)) ∙ beyond_is
+    memory₂ : b.memory.now ≡ m
+    memory₂ = B.memory ∙ memory₁
 
--- blank marks
-abbrev pub zeros : List ℕ
-zeros = replicate 24576 0
+    after₁ : a.bytes ≡ s₁
+    after₁ = A.left ∙ ap₂ (λ (u : ℕ) (v : List ℕ). marks u v R) O.pages O.bytes
 
-pub zeros_long : length zeros ≡ 24576
-zeros_long = length-replicate {A = ℕ} 24576 0
+    names₁ : pass_names a.pages 0 a.memory.now a.bytes ≡ E₁
+    names₁ = ap (λ (u : ℕ). pass_names u 0 a.memory.now a.bytes) pages₁ ∙ ap₂ (pass_names n 0) memory₁ after₁
 
-pub zeros_blank : (i : ℕ) → get_or zeros i 0 ≡ 0
-zeros_blank i = either (dec_lt i 24576) (λ h. get_or-replicate {A = ℕ} 24576 i 0 0 h) (λ h. get_or-eq_default zeros 0 {n = i} (omega (arith, zeros_long)))
+    after₂ : b.bytes ≡ s₂
+    after₂ = B.left ∙ ap (λ (l : List Name). marks a.pages a.bytes l) names₁ ∙ ap₂ (λ (u : ℕ) (v : List ℕ). marks u v E₁) pages₁ after₁
+
+    names₂ : pass_names b.pages 1 b.memory.now b.bytes ≡ E₂
+    names₂ = ap (λ (u : ℕ). pass_names u 1 b.memory.now b.bytes) pages₂ ∙ ap₂ (pass_names n 1) memory₂ after₂
+
+    after₃ : c.bytes ≡ s₃
+    after₃ = C.left ∙ ap (λ (l : List Name). marks b.pages b.bytes l) names₂ ∙ ap₂ (λ (u : ℕ) (v : List ℕ). marks u v E₂) pages₂ after₂
+
+    pub filled_map : (r : List ℕ) → r ≡ map (byte_of c.bytes) (range c.pages) → r ≡ map_for cs t m
+    filled_map r h = h ∙ ap₂ (λ (v : List ℕ) (u : ℕ). map (byte_of v) (range u)) after₃ (C.pages ∙ pages₂) ∙ map_is
+
+    beyond₁ : a.beyond ≡ strays n R
+    beyond₁ = A.beyond ∙ ap₂ (λ (d : Bool) (u : ℕ). d || strays u R) O.beyond O.pages
+
+    beyond₂ : b.beyond ≡ strays n R || strays n E₁
+    beyond₂ = B.beyond ∙ ap₂ ◌||◌ beyond₁ (ap₂ strays pages₁ names₁)
+
+    pub filled_beyond : c.beyond ≡ not (in_memory (reach cs t m) n)
+    filled_beyond = C.beyond ∙ ap₂ ◌||◌ beyond₂ (ap₂ strays pages₂ names₂) ∙ or_assoc (strays n R) (strays n E₁) (strays n E₂) ∙ beyond_is

@@ -8,6 +8,7 @@ ghost use Rattle.std.specs.Prelude.{◌≡◌, not, ◌≤◌, length};
 ghost use Rattle.tables.specs.Views.{cores_of, pages_of};
 ghost use Rattle.reach.specs.Reach as x;
 
+use marks::{Level, Marks};
 use refusals::Refusal;
 use tables::machine::Machine;
 
@@ -24,13 +25,12 @@ pub fn fill(machine: &Machine, group: u32, map: &mut [u8]) -> bool
     ensures value { result ≡ not (x.in_memory (x.reach (x.members group (cores_of machine.now.tables.now)) machine.now.tables.now machine.now.memory.now) (pages_of machine.now.tables.now)) }
     ensures map_after { map.new ≡ x.map_for (x.members group (cores_of machine.now.tables.now)) machine.now.tables.now machine.now.memory.now }
 {
-    let pages = machine.pages();
-    let mut s = [0u8; 24576];
-    let named = roots::mark_cores(&mut s, machine, group);
-    let seconds = marks::pass(&mut s, machine.memory, pages, 0);
-    let datas = marks::pass(&mut s, machine.memory, pages, 1);
-    marks::write_map(map, &s, pages);
-    named | (seconds | datas)
+    let mut marks = Marks::new(machine);
+    roots::mark_cores(&mut marks, machine, group);
+    marks.pass(Level::First);
+    marks.pass(Level::Second);
+    marks.write_map(map);
+    marks.beyond
 }
 
 // Whether a number stands for a group of cores.

@@ -2,21 +2,38 @@
 -- `filled_map` and `filled_beyond` of proofs/Closing tie the marks to specs/Reach.antt, and the contracts of fill and
 -- reach speak of that file only.
 -- Assumes nothing.
-use Rattle.std.specs.Prelude.{if◌then◌else◌, ◌≡◌, Bool, true, false, ◌||◌, not, ℕ, ◌+◌, ◌-◌, ◌*◌, ◌/◌, ◌%◌, eqb, ltb, get_or, set, Option, Some, None}
+use Rattle.std.specs.Prelude.{if◌then◌else◌, ◌≡◌, Bool, true, false, ◌||◌, not, ℕ, ◌+◌, ◌-◌, ◌*◌, ◌/◌, ◌%◌, eqb, ltb, get_or, set, replicate, Option, Some, None}
 use mathlib.Core.List.{List, [], ◌∷◌, ◌++◌, flat_map}
 use Rattle.word.specs.Word.{flag, is_set}
 use Rattle.word.specs.Bytes.{bytes_at}
+use Rattle.layout.specs.Layout.{walk_head, store_head}
 use Rattle.layout.specs.Blocks.{block}
 use Rattle.records.specs.declared.Record.{Record}
-use Rattle.records.specs.Records.{level_of, walk_in, store_in, walk_numbers, store_numbers}
+use Rattle.records.specs.Records.{level_of, walk_in, store_in, chain_at}
 use Rattle.tlb.specs.Walks.{base_address, entry_at, ptea_at, pte_p, pte_ba}
 use Rattle.tlb.specs.Steps.{origin_of}
+use Rattle.reach.specs.declared.marks.Level.{Level}
+use Rattle.reach.specs.declared.marks.Level.TheVariants.{First, Second}
+use Rattle.reach.specs.declared.marks.Marks.{Marks}
+use Rattle.reach.specs.declared.marks.Set.{Set}
+use Rattle.reach.specs.declared.marks.Set.TheVariants.{Firsts, Seconds, Datas}
+use Rattle.reach.specs.declared.roots.Content.{Content}
+use Rattle.reach.specs.declared.roots.Content.TheVariants.{Walks, Stores}
 use Rattle.reach.specs.Lists.{range}
 
 -- ---- names
 
--- a page that is named: in set 0, 1 or 2 (first-level tables, second-level tables, data), with the write right or
--- without it (1 or 0)
+-- the number of a set; that of the set of a level's tables
+abbrev pub number_of : Set → ℕ
+number_of Firsts = 0
+number_of Seconds = 1
+number_of Datas = 2
+
+abbrev pub order : Level → ℕ
+order First = 0
+order Second = 1
+
+-- a page that is named: in set 0, 1 or 2, with the write right or without it (1 or 0)
 pub record Name : Type 0 where
   pub kind : ℕ
   pub page : ℕ
@@ -44,15 +61,19 @@ unfoldable pub strays : ℕ → List Name → Bool
 strays n [] = false
 strays n (y ∷ l) = not (ltb y.page n) || strays n l
 
--- the names l are marked in s, which becomes e, and r says whether a page beyond memory is among them
-pub record Marked (n : ℕ) (s e : List ℕ) (r : Bool) (l : List Name) : Type 0 where
-  pub left : e ≡ marks n s l
-  pub beyond : r ≡ strays n l
+-- no page is marked or named yet, beside a memory m of n pages
+pub record Blank (n : ℕ) (m : List ℕ) (s : Marks) : Type 0 where
+  pub pages : s.pages ≡ n
+  pub memory : s.memory.now ≡ m
+  pub beyond : s.beyond ≡ false
+  pub bytes : s.bytes ≡ replicate 24576 0
 
--- the same after others, among which b says whether there was such a page
-pub record Beside (n : ℕ) (b : Bool) (s e : List ℕ) (r : Bool) (l : List Name) : Type 0 where
-  pub left : e ≡ marks n s l
-  pub beyond : r ≡ b || strays n l
+-- the names l are marked in s, which becomes e; whether a page beyond memory is among them, or was named before
+pub record Marked (s e : Marks) (l : List Name) : Type 0 where
+  pub pages : e.pages ≡ s.pages
+  pub memory : e.memory.now ≡ s.memory.now
+  pub left : e.bytes ≡ marks s.pages s.bytes l
+  pub beyond : e.beyond ≡ s.beyond || strays s.pages l
 
 -- page x is in set k with the write right; with or without it
 abbrev pub is_written : List ℕ → ℕ → ℕ → Bool
@@ -90,18 +111,25 @@ pass_names n k m s = flat_map (marked_names k m s) (range n)
 unfoldable pub walk_name : ℕ → ℕ → List Name
 walk_name first second = if ltb (level_of first) 3 then name (2 - level_of first) second (first % 2) ∷ [] else []
 
--- by record i of a block, a pending store or a walk
-abbrev pub named_by : Bool → Record → List Name
-named_by true r = name 2 (base_address r.first) 1 ∷ []
-named_by false r = walk_name r.first r.second
+-- by a record, a walk or a pending store; by record i of a block
+abbrev pub named_by : Content → Record → List Name
+named_by Walks r = walk_name r.first r.second
+named_by Stores r = name 2 (base_address r.first) 1 ∷ []
 
-unfoldable pub record_name : Bool → List ℕ → ℕ → List Name
-record_name true b i = name 2 (base_address (store_in b i).address) 1 ∷ []
-record_name false b i = walk_name (walk_in b i).first (walk_in b i).second
+unfoldable pub record_name : Content → List ℕ → ℕ → List Name
+record_name Walks b i = walk_name (walk_in b i).first (walk_in b i).second
+record_name Stores b i = name 2 (base_address (store_in b i).address) 1 ∷ []
 
--- by a core's block
+-- by the records of a chain, from the word where it begins; by a core's block
+abbrev pub head_of : Content → ℕ
+head_of Walks = walk_head
+head_of Stores = store_head
+
+abbrev pub chain_names : Content → List ℕ → List Name
+chain_names c b = flat_map (record_name c b) (chain_at b (head_of c))
+
 unfoldable pub core_names : List ℕ → List Name
-core_names b = (name 0 (origin_of b) 0 ∷ []) ++ (flat_map (record_name false b) (walk_numbers b) ++ flat_map (record_name true b) (store_numbers b))
+core_names b = (name 0 (origin_of b) 0 ∷ []) ++ (chain_names Walks b ++ chain_names Stores b)
 
 -- by the block of core k, if it is in the group g; by those of all cores below n
 unfoldable pub member_names : ℕ → List ℕ → ℕ → List Name

@@ -5,4 +5,4 @@ use Rattle.reach.specs.inner.Marks.{Marked, named_by}
 use Rattle.reach.proofs.roots.mark_chain.Given as goal
 
 abbrev pub invariant-loop-record : goal.invariant-loop-record
-invariant-loop-record l = Marked l.pages l.initial.s l.s l.beyond (flat_map (named_by l.store) l.yielded)
+invariant-loop-record l = Marked l.initial.marks l.marks (flat_map (named_by l.content) l.yielded)

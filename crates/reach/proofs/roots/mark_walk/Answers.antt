@@ -1,11 +1,14 @@
 -- `reach::roots::mark_walk` meets its contract.
 -- Assumes nothing.
 use native.Mathlib.Omega.{arith}
-use Rattle.reach.proofs.Chains.{walk_level_lem, walk_none}
+use Rattle.reach.proofs.Chains.{walk_at, walk_none}
 use Rattle.reach.proofs.roots.mark_walk.Goals as goal
 
-pub returns-then-level-lt3 : goal.returns-then-level-lt3
-returns-then-level-lt3 c = let a = c.args in walk_level_lem a.pages _ _ _ a.first a.second (omega arith) c.mark.ensures
+pub returns-in-Some : goal.returns-in-Some
+returns-in-Some c =
+    let w = c.args.walk in
+    let e = c.in-Some.ensures in
+    walk_at w.first w.second _ (omega (arith, c.level.ensures, e.0)) (omega (arith, c.level.ensures, e.1)) c.mark.ensures
 
-pub returns : goal.returns
-returns c = let a = c.args in walk_none a.pages _ a.first a.second (omega arith)
+pub returns-in_default : goal.returns-in_default
+returns-in_default c = let w = c.args.walk in walk_none _ w.first w.second (omega (arith, c.level.ensures, c.in_default.ensures))
