@@ -22,7 +22,7 @@ fn interrupted(
     requires { length b.now ≡ 256 }
     ensures { result ≡ p.interrupted w read causes (x.vector_of (event b.now)) buffer walks write }
 {
-    let answer = Answer::Interrupt(interrupts::level(causes) as u8);
+    let answer = Answer::Interrupt(interrupts::level(causes));
     let core = CoreChange::Interrupt(Interruption {
         word: w,
         read,

@@ -1,7 +1,7 @@
 -- Classes of instructions as the code tests them: each test is tried on every row of the tables.
 -- Assumes nothing.
 use mathlib.Core.Path.{◌≡◌, refl, ◌∙◌}
-use mathlib.Core.Bool.{Bool, true, false, not, ◌&&◌}
+use mathlib.Core.Bool.{Bool, true, false, not, ◌&&◌, ◌||◌}
 use lib.Dec.{T, eqb, ltb}
 use Rattle.word.proofs.Tests.{same, same_eq}
 use Rattle.decode.specs.declared.Instruction.{Instruction}
@@ -109,3 +109,36 @@ sysc_number = agree (λ (i : Instruction). eqb (number i) 48) sysc tt
 pub ill_number : (i : Instruction) → eqb (number i) 61 ≡ ill i
 unfolding ill
 ill_number = agree (λ (i : Instruction). eqb (number i) 61) ill tt
+
+-- what the number of an instruction tells of these classes
+pub load_range : (i : Instruction) → ltb (number i) 5 ≡ load i
+unfolding load
+load_range = agree (λ (i : Instruction). ltb (number i) 5) load tt
+
+pub store_range : (i : Instruction) → (ltb 4 (number i) && ltb (number i) 8) ≡ store i
+unfolding store
+store_range = agree (λ (i : Instruction). ltb 4 (number i) && ltb (number i) 8) store tt
+
+pub cas_number : (i : Instruction) → eqb (number i) 49 ≡ cas i
+unfolding cas
+cas_number = agree (λ (i : Instruction). eqb (number i) 49) cas tt
+
+pub mfence_number : (i : Instruction) → eqb (number i) 50 ≡ mfence i
+unfolding mfence
+mfence_number = agree (λ (i : Instruction). eqb (number i) 50) mfence tt
+
+pub flush_number : (i : Instruction) → eqb (number i) 51 ≡ flush i
+unfolding flush
+flush_number = agree (λ (i : Instruction). eqb (number i) 51) flush tt
+
+pub invlpg_number : (i : Instruction) → eqb (number i) 52 ≡ invlpg i
+unfolding invlpg
+invlpg_number = agree (λ (i : Instruction). eqb (number i) 52) invlpg tt
+
+pub mulacc_range : (i : Instruction) → ((ltb 33 (number i) && ltb (number i) 36) || ((ltb 52 (number i) && ltb (number i) 58) && not (eqb (number i) 55))) ≡ mulacc i
+unfolding mulacc
+mulacc_range = agree (λ (i : Instruction). (ltb 33 (number i) && ltb (number i) 36) || ((ltb 52 (number i) && ltb (number i) 58) && not (eqb (number i) 55))) mulacc tt
+
+pub eret_number : (i : Instruction) → eqb (number i) 58 ≡ eret i
+unfolding eret
+eret_number = agree (λ (i : Instruction). eqb (number i) 58) eret tt

@@ -33,6 +33,15 @@ form_found w e = ap (λ (l : Form). form_text l w) e ∙ form_text_lem (decoded 
 pub form_fits : {l : Form} (w : ℕ) → l ≡ form_of (syntax_of (decoded w)) → length (form_text l w) ≤ 32
 form_fits w e = omega (arith, ap length (form_found w e), text_fits w)
 
+pub gives :
+    {l : Form} {d : List ℕ} {n : ℕ} (w : ℕ) (b : List ℕ) → length b ≡ 32 → l ≡ form_of (syntax_of (decoded w)) → n ≡ length (form_text l w)
+    → d ≡ form_text l w ++ replicate (32 - length (form_text l w)) 0 → Gives w b (Ok n) d
+unfolding disassemble_on
+gives {l} {d} {n} w b h f p e =
+    let t = form_found w f in
+    rw (eq-eqb (length b) 32 h) (ap Ok (p ∙ ap length t), e ∙ ap (λ (x : List ℕ). x ++ replicate (32 - length x) 0) t)
+
+-- the same from a buffer with the text at its front, of which the rest was filled
 pub written :
     {l : Form} {b c d : List ℕ} {n : ℕ} (w : ℕ) → length b ≡ 32 → l ≡ form_of (syntax_of (decoded w)) → Put b 0 (form_text l w) n c
     → d ≡ take n c ++ replicate (length c - n) 0 → Gives w b (Ok n) d

@@ -1,7 +1,7 @@
 // The text of an instruction word, for a debugger (specs/Disassembly.antt).
 #![tactic(auto)]
 
-ghost use Rattle.std.specs.Prelude.{◌≡◌, ◌++◌, ◌+◌, ◌≤◌, ◌<◌, ◌^◌, length};
+ghost use Rattle.std.specs.Prelude.{◌≡◌, ◌++◌, ◌+◌, ◌-◌, ◌≤◌, ◌<◌, ◌^◌, length, replicate};
 ghost use Rattle.word.specs.Word.{signed};
 ghost use Rattle.text.specs.Text.{Put};
 ghost use Rattle.forms.specs.inner.Forms.{letters, as_list};
@@ -11,7 +11,7 @@ ghost use Rattle.disassemble.specs.inner.Texts.{form_text};
 use decode::fields;
 use forms::{Form, Operand, OperandList};
 use refusals::Refusal;
-use text::{Text, put};
+use text::Text;
 
 // Puts the bytes before the first zero at the front of a lent buffer, and answers the place after them.
 fn put_mnemonic(text: &mut [u8], mnemonic: &[u8]) -> usize
@@ -94,17 +94,28 @@ fn put_operands<const N: usize>(text: &mut Text<N>, l: OperandList, w: u32)
     }
 }
 
-// Puts a mnemonic and its operands at the front of a lent buffer, and answers the place after them.
+// Puts the text of a word at the front of a lent buffer, zeros behind it, and answers the place after the text. Where
+// there are operands, they come from a text of their own with the zeros behind it.
 fn put_form(text: &mut [u8], l: Form, w: u32) -> usize
-    requires room { length (form_text l w) ≤ length text.old }
+    requires room { length text.old ≡ 32 }
     requires short { length (form_text l w) ≤ 32 }
-    ensures { Put text.old 0 (form_text l w) result text.new }
+    ensures bytes { text.new ≡ form_text l w ++ replicate (32 - length (form_text l w)) 0 }
+    ensures place { result ≡ length (form_text l w) }
 {
     let Form(mnemonic, operands) = l;
     let n = put_mnemonic(text, &mnemonic);
-    let mut shown: Text<32> = Text::new();
-    put_operands(&mut shown, operands, w);
-    put(text, n, shown.as_bytes())
+    match operands {
+        OperandList::None => {
+            text[n..].fill(0);
+            n
+        }
+        _ => {
+            let mut shown: Text<32> = Text::new();
+            put_operands(&mut shown, operands, w);
+            text[n..].copy_from_slice(&shown.as_padded()[..32 - n]);
+            n + shown.as_bytes().len()
+        }
+    }
 }
 
 // Puts the text of a word into 32 bytes, zero beyond it, and answers its length. Refused if the bytes lent are not 32.
@@ -117,6 +128,5 @@ pub fn disassemble(w: u32, text: &mut [u8]) -> Result<u32, Refusal>
         return Err(Refusal::TextLength);
     }
     let n = put_form(text, forms::form_of(w), w);
-    text[n..].fill(0);
     Ok(n as u32)
 }

@@ -2,7 +2,7 @@
 -- Assumes nothing.
 use Rattle.std.specs.Prelude.{if◌then◌else◌, Option, Some, None, IfSome}
 use Rattle.std.specs.Bool.{then_some}
-use mathlib.Core.Path.{◌≡◌, refl}
+use mathlib.Core.Path.{◌≡◌, refl, subst}
 use mathlib.Core.Bool.{Bool, true, false, ◌&&◌}
 use mathlib.Core.List.{List}
 use Prim.Native.Nat.{ℕ, ◌^◌}
@@ -56,3 +56,7 @@ module _ (n : ℕ) where
       (by_if (ltb (word s 0) 12) _ None
       (λ f. by_if (ltb (word s 1) 24) (step_of_line (word s 0) (word s 1) s) None (line_formed (word s 0) (word s 1) s) tt) tt))
       tt
+
+  -- of a step whose kind is known
+  pub found : {p x : Step} → formed n p ≡ true → p ≡ x → formed n x ≡ true
+  found f e = subst (λ y. formed n y ≡ true) e f

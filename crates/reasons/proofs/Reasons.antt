@@ -1,20 +1,23 @@
 -- The reasons that the code gives are those of specs/Why.antt.
 -- Assumes nothing.
 use Rattle.std.specs.Prelude.{if◌then◌else◌}
-use mathlib.Core.Path.{◌≡◌, refl, sym, ap, ap₂, ◌∙◌}
+use mathlib.Core.Path.{◌≡◌, refl, sym, ap, ap₂, subst, ◌∙◌}
 use mathlib.Core.Logic.{◌≢◌}
 use mathlib.Core.Bool.{Bool, true, false, ◌&&◌, ◌||◌, not, false≢true}
 use mathlib.Core.List.{List, [], ◌∷◌, ◌++◌}
 use Prim.Native.Nat.{ℕ, zero, suc, ◌+◌, ◌-◌, ◌<◌, ◌≤◌}
 use native.Mathlib.Omega.{arith}
 use native.Mathlib.Numerals.{add-one}
+use native.Mathlib.Decide.{ℕ_discrete}
 use lib.Dec.{eqb, ltb}
-use lib.ListN.{length, get_or}
+use lib.ListN.{length, get_or, set, length-set}
+use lib.Seq.{get_or-set_same, get_or-set_other}
 use borrow.Author.Tests.{ltb-true, ltb-false, ne_eqb}
 use Rattle.word.specs.Word.{is_set, flag}
-use Rattle.word.proofs.Truth.{and_left, and_right, and_none, and-true, tested}
+use Rattle.word.proofs.Truth.{and_left, and_right, and_none, and-true, tested, clash}
 use Rattle.layout.specs.Blocks.{block}
 use Rattle.records.specs.Records.{all}
+use Rattle.records.proofs.Counts.{either}
 use Rattle.tables.specs.Views.{cores_of, pages_of, runs}
 use Rattle.reach.specs.Lists.{range, has, select}
 use Rattle.reach.specs.Reach.{Pages, members, reach, table_pages, reached, in_memory, map_byte, map_for}
@@ -35,7 +38,7 @@ use Rattle.ways.specs.Ways.{ways, page, lowest_way}
 use Rattle.std.specs.Option.{is_none, is_some}
 use Rattle.reasons.specs.Why.{grants, spoils, by_way, way_to, with_own, fails, first_failing, mode_reason, beyond_reason, table_reason, touch_reason, reason_at, or_else, first_after}
 use Rattle.ways.specs.inner.Search.{shows, wanted, sought}
-use Rattle.reasons.specs.inner.Judging.{fault_at, Faults, faulty, beyond_found, table_found, touch_found}
+use Rattle.reasons.specs.inner.Judging.{fault_at, Faults, FaultsMarked, faulty, beyond_found, table_found, touch_found}
 use Rattle.reasons.proofs.None.{lowest_none, reached_all, grants_all, spoils_all}
 use Rattle.ways.proofs.Lists.{select_none, each_weak, all_ext}
 use Rattle.ways.proofs.Searches.{wanted_below, wanted_out, wanted_marked}
@@ -266,6 +269,33 @@ touch_is cs os t m c d e q =
 pub record From (k : Fault) (own other s : List ℕ) (low i : ℕ) : Type 0 where
   pub marks : (p : ℕ) → i ≤ p → p < length s → get_or s p 0 ≡ flag (fault_at k (get_or own p 0) (get_or other p 0))
   pub least : (p : ℕ) → i ≤ p → p < length s → fault_at k (get_or own p 0) (get_or other p 0) ≡ true → low ≤ p
+
+-- one page more, from the last on, until all are marked
+pub from_at : (k : Fault) (own other s : List ℕ) (low i : ℕ) → 0 < i → From k own other s low i → From k own other s low (i - 1 + 1)
+from_at k own other s low i h F = let e : i - 1 + 1 ≡ i = omega arith in subst (From k own other s low) (sym e) F
+
+pub from_start : (k : Fault) (own other s : List ℕ) → From k own other s (length s) (length s)
+from_start k own other s = record { marks = λ p h l. absurd (omega arith); least = λ p h l e. absurd (omega arith) }
+
+module _ (k : Fault) (own other s : List ℕ) (low i : ℕ) (F : From k own other s low (i + 1)) (h : i < length s) (b : Bool) (e : b ≡ fault_at k (get_or own i 0) (get_or other i 0)) where
+  kept : (v p : ℕ) → i ≤ p → p < length (set s i v) → v ≡ flag b → get_or (set s i v) p 0 ≡ flag (fault_at k (get_or own p 0) (get_or other p 0))
+  kept v p j l z =
+      either (ℕ_discrete p i)
+      (λ q. rw q (get_or-set_same s i v 0 h ∙ z ∙ ap flag e))
+      (λ d. get_or-set_other s i p v 0 d ∙ F.marks p (omega arith) (omega (arith, length-set s i v)))
+
+  pub from_fault : b ≡ true → From k own other (set s i 1) i i
+  from_fault t = record { marks = λ p j l. kept 1 p j l (sym (ap flag t)); least = λ p j l u. j }
+
+  pub from_good : b ≡ false → From k own other (set s i 0) low i
+  from_good t =
+      record {
+        marks = λ p j l. kept 0 p j l (sym (ap flag t));
+        least = λ p j l u. either (ℕ_discrete p i) (λ q. clash b (e ∙ sym (ap (λ (z : ℕ). fault_at k (get_or own z 0) (get_or other z 0)) q) ∙ u) t) (λ d. F.least p (omega arith) (omega (arith, length-set s i 0)) u);
+      }
+
+pub from_all : (k : Fault) (own other r s : List ℕ) (low i : ℕ) → length s ≡ length r → i ≤ 0 → From k own other s low i → FaultsMarked k own other r s low
+from_all k own other r s low i q z F = record { long = q; faults = record { marks = λ p l. F.marks p (omega arith) l; least = λ p l e. F.least p (omega arith) l e } }
 
 -- ---- two ways as a reason
 

@@ -16,9 +16,30 @@ use Rattle.std.specs.Prelude.{Option, None, Some, Result, Ok, Err}
 use Rattle.refusals.specs.declared.Refusal.{Refusal}
 use Rattle.refusals.specs.declared.Refusal.TheVariants.{Unsound, LentLength}
 use Rattle.refusals.specs.declared.Refusal.TheVariants as refusal
+use Rattle.ways.specs.declared.Way.{Way}
+use Rattle.reasons.specs.declared.Side.{Side}
+use Rattle.reasons.specs.declared.Side.TheVariants.{Group, Rest}
 use Rattle.reasons.specs.declared.Reason.{Reason}
 use Rattle.reasons.specs.declared.Reason.TheVariants.{NotUser, BeyondMemory, OwnTable, Touches}
 use Rattle.reasons.specs.Why.{reason_number, first_after, why_after, core_words, way_words, first_words, second_words, why_words, Told, told, told_number}
+
+-- ---- only where one side touches a page of the other is there a second way
+
+pub second_none : second_words None ≡ core_words 0
+unfolding second_words
+second_none = refl
+
+pub second_core : (k : ℕ) → second_words (Some (NotUser k)) ≡ core_words 0
+unfolding second_words
+second_core k = refl
+
+pub second_beyond : (s : Side) (w : Way) → second_words (Some (BeyondMemory s w)) ≡ core_words 0
+unfolding second_words
+second_beyond s w = refl
+
+pub second_table : (s : Side) (w : Way) → second_words (Some (OwnTable s w)) ≡ core_words 0
+unfolding second_words
+second_table s w = refl
 
 -- ---- both parts of 18 words, one after the other
 
@@ -42,6 +63,20 @@ both_written a f s w h p q =
     let e : drop 9 (f ++ drop 9 w) ≡ drop 9 w = drop_at f (drop 9 w) 9 l in
     ap₂ ◌++◌ (take_at f (drop 9 w) 9 l ∙ p)
     (ap₂ ◌++◌ q (ap (drop (length (f ++ drop 9 w) - 9)) e ∙ none_left (length (f ++ drop 9 w) - 9) (drop 9 w) (omega (arith, length-append f (drop 9 w), length-drop 9 w))) ∙ append-nil (second_words a))
+
+-- ---- no reason has a number above 6
+
+small : (r : Option Reason) → reason_number r ≤ 6
+small None = omega arith
+small (Some (NotUser k)) = omega arith
+small (Some (BeyondMemory Group w)) = omega arith
+small (Some (BeyondMemory Rest w)) = omega arith
+small (Some (OwnTable Group w)) = omega arith
+small (Some (OwnTable Rest w)) = omega arith
+small (Some (Touches w v)) = omega arith
+
+pub after_small : (g : ℕ) (t m : List ℕ) (d a : ℕ) → reason_number (first_after g t m d a) ≤ 6
+after_small g t m d a = small (first_after g t m d a)
 
 -- ---- the answers of the operation
 

@@ -53,7 +53,7 @@ pub fn tell(t: &[u32], m: &[u8], group: u32, after: u32, words: &mut [u32]) -> R
     ensures words_after { words.new ≡ (why.told after group t.now m.now words.old).words }
     ensures number { why.told_number result ≡ why.told_number (why.told after group t.now m.now words.old).answer }
 {
-    let machine = Machine::new(t, m)?;
+    let machine = Machine::new(t, m)?; // Refused before the words are looked at.
     if words.len() != 18 {
         return Err(Refusal::LentLength);
     }

@@ -4,7 +4,7 @@ use mathlib.Core.Path.{◌≡◌, refl, sym, ap, subst, ◌∙◌}
 use mathlib.Core.Logic.{⊎_elim, ◌≢◌}
 use Prim.Native.Nat.{ℕ, ◌+◌, ◌<◌, ◌≤◌}
 use mathlib.Core.Bool.{true}
-use mathlib.Core.List.{List, [], ◌∷◌, ◌++◌, append_assoc}
+use mathlib.Core.List.{List, [], ◌∷◌, ◌++◌, append_assoc, append-nil}
 use native.Mathlib.Omega.{arith}
 use lib.ListN.{length, get_or, length-append}
 use borrow.Author.Tests.{lt-ltb}
@@ -105,6 +105,10 @@ along_end {b} {h} {l} {at} {n} A e = go A.rest A.on
     go : (r : List ℕ) → Links b at r → r ≡ []
     go [] s = refl
     go (x ∷ t) s = absurd (omega (arith, s.0, s.1, A.now_at))
+
+-- so the place is where the list ends
+pub along_last : {b : List ℕ} {h : ℕ} {l : List ℕ} {at n : ℕ} → Along b h l at n → n ≡ 0 → at ≡ end_of h l
+along_last {h = h} A e = A.here ∙ ap (end_of h) (sym (A.whole ∙ ap (λ (r : List ℕ). A.front ++ r) (along_end A e) ∙ append-nil A.front))
 
 -- what is to come is as long as the chain from n, and falls
 pub along_chain : {b : List ℕ} {h : ℕ} {l : List ℕ} {at n : ℕ} (A : Along b h l at n) → chain 32 b n ≡ A.rest

@@ -13,7 +13,7 @@ use borrow.Author.Tests.{ltb-true, lt-ltb, le-ltb, le-leb, lt-leb, eq-eqb, ne_eq
 use Rattle.layout.specs.Layout.{record_at}
 use Rattle.word.specs.Word.{flag}
 use Rattle.word.proofs.Truth.{and_left, and_both}
-use Rattle.records.specs.Records.{chain, chain_at, count, all, small}
+use Rattle.records.specs.Records.{chain, chain_at, count, each, all, small}
 use Rattle.records.specs.declared.check.Rule.{Rule}
 use Rattle.records.specs.inner.Rules.{obeys, fits_rule, chain_fits}
 use Rattle.records.specs.inner.Tallied.{Tallied}
@@ -167,3 +167,22 @@ module _ (b : List ℕ) (h : ℕ) (rule : Rule) (most : ℕ) (s : List ℕ) wher
 
     pub tally_bad : n ≢ 0 → n < 32 → obeys rule b n ≡ false → Tallied b h rule most s t false
     tally_bad d l o = unfit d (rw (lt-ltb n 32 l, o))
+
+-- a test of each number
+pub each_step : (q : ℕ → Bool) (k : ℕ) → 0 < k → each k q ≡ q k && each (k - 1) q
+unfolding each
+each_step q zero p = absurd (omega arith)
+each_step q (suc k) p =
+    let e : k ≡ suc k - 1 = omega arith in
+    ap (λ (j : ℕ). q (suc k) && each j q) e
+
+pub each_none : (q : ℕ → Bool) (k : ℕ) → k ≤ 0 → each k q ≡ true
+unfolding each
+each_none q zero p = refl
+each_none q (suc k) p = absurd (omega arith)
+
+pub each_fail : (q : ℕ → Bool) (k : ℕ) → 0 < k → q k ≡ false → each k q ≡ false
+each_fail q k p e = rw e at (each_step q k p)
+
+pub each_next : (q : ℕ → Bool) (k : ℕ) → 0 < k → q k ≡ true → each (k - 1) q ≡ each k q
+each_next q k p e = sym (rw e at (each_step q k p))

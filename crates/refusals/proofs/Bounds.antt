@@ -1,4 +1,4 @@
--- The numbers of refusals are small, and each is that of one refusal alone.
+-- The numbers of refusals are small.
 -- Assumes nothing.
 use Prim.Native.Nat.{◌≤◌}
 use native.Mathlib.Omega.{arith}

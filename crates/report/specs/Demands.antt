@@ -8,7 +8,7 @@
 -- wext_fault, set-d, complete, hit and ptea (tlb); sbhit, sbv, sbhazard, is_port, apicadr and ioapicadr (store_buffer);
 -- least and some_up_to (vector_register); there, local_port, io_port, among and same (records); of words: step_of, the
 -- form of a step, and count_at, the word that counts its refusal (steps); the views of words, sound and made (tables);
--- stores and walks (records). That they are not empty is shown in claims: made tables are sound, and there are steps
+-- stores and walks (records); the number of a refusal (refusals). That they are not empty is shown in claims: made tables are sound, and there are steps
 -- that are accepted and steps refused 5 to 9.
 --
 -- The numbers of records, the order of the walks and the free chain are no part of a configuration. Nothing here fixes

@@ -47,7 +47,7 @@ fn judged(t: &[u32], m: &[u8], group: u32) -> Result<bool, Refusal>
     if !reach::is_group(group, machine.cores()) {
         return Err(Refusal::Group);
     }
-    if !sides::all_in_user_mode(&machine, group) {
+    if !sides::all_in_user_mode(machine.tables, group) {
         return Ok(false);
     }
     Ok(pages_apart(&machine, group))

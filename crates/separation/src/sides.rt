@@ -1,5 +1,5 @@
 // The two sides of a group: their cores, and what their maps say of a page (specs/inner/Sides.antt).
-ghost use Rattle.std.specs.Prelude.{◌≡◌, ◌≤◌, ◌<◌, length, get_or};
+ghost use Rattle.std.specs.Prelude.{◌≡◌, ◌+◌, ◌*◌, ◌≤◌, ◌<◌, length, get_or};
 ghost use Rattle.word.specs.Word.{is_set};
 ghost use Rattle.records.specs.Records.{all};
 ghost use Rattle.tables.specs.Views.{cores_of};
@@ -8,6 +8,7 @@ ghost use Rattle.reach.specs.Reach.{members};
 ghost use Rattle.separation.specs.Apart as apart;
 ghost use Rattle.separation.specs.inner.Sides as y;
 
+use layout::CORES;
 use tables::machine::Machine;
 
 // Whether core k is of the group.
@@ -31,25 +32,33 @@ pub fn rest(machine: &Machine, group: u32) -> u32
     r
 }
 
-// Whether core k is of neither side, or is running in user mode.
-pub fn passes(machine: &Machine, group: u32, k: u32) -> bool
-    requires { k < cores_of machine.now.tables.now }
-    ensures { result ≡ y.passes group machine.now.tables.now k }
+// Whether a core, by its block and by whether it is of the group, is of neither side, or is running in user mode.
+fn block_passes(b: &[u32], member: bool) -> bool
+    requires { length b.now ≡ 256 }
+    ensures { result ≡ y.block_passes member b.now }
 {
-    let member = is_member(group, k);
-    let b = machine.block(k);
     let running = tables::block::runs(b);
     let user = tables::block::user(b);
     !(member | running) | (running & user)
 }
 
-// Whether every core of both sides is running in user mode.
-pub fn all_in_user_mode(machine: &Machine, group: u32) -> bool
-    ensures { result ≡ all (y.passes group machine.now.tables.now) (range (cores_of machine.now.tables.now)) }
+// Whether core k is of neither side, or is running in user mode.
+pub fn passes(machine: &Machine, group: u32, k: u32) -> bool
+    requires { k < cores_of machine.now.tables.now }
+    ensures { result ≡ y.passes group machine.now.tables.now k }
 {
+    block_passes(machine.block(k), is_member(group, k))
+}
+
+// Whether every core of both sides is running in user mode.
+pub fn all_in_user_mode(t: &[u32], group: u32) -> bool
+    requires { (cores_of t.now ≤ 4) × (32 + 256 * cores_of t.now ≤ length t.now) }
+    ensures { result ≡ all (y.passes group t.now) (range (cores_of t.now)) }
+{
+    let cores = t[CORES];
     let mut good = true;
-    for k in 0..machine.cores() {
-        good &= passes(machine, group, k);
+    for k in 0..cores {
+        good &= block_passes(layout::block(t, k), is_member(group, k));
     }
     good
 }

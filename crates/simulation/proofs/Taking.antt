@@ -3,20 +3,21 @@
 use Rattle.std.specs.Prelude.{Result, Ok, Err, is_ok}
 use Rattle.refusals.specs.declared.Refusal.{Refusal}
 use mathlib.Core.Path.{◌≡◌, refl, ap, ◌∙◌}
-use mathlib.Core.List.{List}
+use mathlib.Core.List.{List, ◌++◌}
 use Prim.Native.Nat.{ℕ, ◌+◌, ◌-◌, ◌*◌, ◌≤◌}
 use native.Mathlib.Numerals.{add-one}
 use native.Mathlib.Omega.{arith}
 use lib.ListN.{length, take, drop, length-drop}
 use lib.Seq.{take_all}
+use borrow.Author.Tests.{eq-eqb, ne_eqb}
 use Rattle.word.specs.Word.{flag}
 use Rattle.word.specs.Bytes.{words_in}
-use Rattle.text.specs.Text.{Put}
+use Rattle.text.specs.Text.{Put, ascii}
 use Rattle.text.proofs.Texts.{follow, reworded, nothing}
 use Rattle.steps.specs.declared.Answer.{Answer}
 use Rattle.machine.specs.Step.{Stepped, step}
-use Rattle.lines.specs.Lines.{line_text}
-use Rattle.simulation.specs.Simulated.{Progress, from, step_at, stepped, after_steps, step_lines}
+use Rattle.lines.specs.Lines.{line_text, end_text}
+use Rattle.simulation.specs.Simulated.{Progress, from, step_at, stepped, after_steps, step_lines, last_text}
 
 -- the words of a step, read from its place to the end
 pub step_words : (s b : List ℕ) (at : ℕ) → s ≡ words_in 6 (take (length b - at) (drop at b)) → s ≡ words_in 6 (drop at b)
@@ -54,6 +55,17 @@ module _ (i : ℕ) (p : Progress) (b t m : List ℕ) (k : ℕ) (e : from t m k �
         ∙ ap (λ (l : List ℕ). from s.tables l k') y
         ∙ ap (λ (n : ℕ). from s.tables s.memory n) (z ∙ ap (λ (r : Result Answer Refusal). k + flag (is_ok r)) f)
         ∙ ap (λ (q : Progress). stepped q (step_at q b (24 * i))) e)
+
+-- ---- the last lines
+
+module _ (n a left : ℕ) where
+  pub last_whole : left ≡ 0 → end_text a (n - a) ≡ last_text n a left
+  unfolding last_text
+  last_whole e = rw (eq-eqb left 0 e) refl
+
+  pub last_cut : (left ≡ 0 → ⊥) → ascii "cut\n" ++ end_text a (n - a) ≡ last_text n a left
+  unfolding last_text
+  last_cut e = rw (ne_eqb left 0 e) refl
 
 flag_one : (a : Result Answer Refusal) → flag (is_ok a) ≤ 1
 flag_one (Ok x) = omega arith

@@ -46,16 +46,17 @@ pub enum Step {
 pub enum Answer {
     Done,
     // The level.
-    Interrupt(u8),
+    Interrupt(u32),
 }
 
 // The answer as one number.
 pub fn answer_number(answer: Result<Answer, Refusal>) -> u32
+    requires { answer_number answer < 2 ^ 32 }
     ensures { result ≡ answer_number answer }
 {
     match answer {
         Ok(Answer::Done) => 0,
-        Ok(Answer::Interrupt(level)) => 1 + u32::from(level),
+        Ok(Answer::Interrupt(level)) => 1 + level,
         Err(refusal) => 100 + u32::from(refusal),
     }
 }

@@ -128,7 +128,8 @@ module _ (b : List ℕ) (a d : ℕ) where
   module _ (p : Ports) (m : List ℕ) (low : a < 2 ^ 32) (w : InWord a d) where
     pub load_mixed : Mixed ≡ source_of b a d → Err LoadError.Hazard ≡ loaded (stores b) p m a d
     unfolding loaded
-    load_mixed e = rw (found_mixed e)
+    load_mixed e =
+        sym (ap (λ (t : Bool). if t then Err LoadError.Hazard else on_read (maxsbhit (stores b) a) (reads d (ms (stores b) p m) a)) (found_mixed e))
 
     pub load_beneath : {r : Option ℕ} → Nothing ≡ source_of b a d → r ≡ reads d (ms [] p m) a → on_read None r ≡ loaded (stores b) p m a d
     unfolding loaded

@@ -1,20 +1,20 @@
 -- Sound tables by their parts, and the parts by facts.
 -- Assumes nothing.
 use mathlib.Core.Path.{◌≡◌, refl, sym, ap, ◌∙◌}
-use Prim.Native.Nat.{ℕ, zero, suc, ◌+◌, ◌*◌, ◌^◌, ◌<◌, ◌≤◌}
+use Prim.Native.Nat.{ℕ, zero, suc, ◌+◌, ◌-◌, ◌*◌, ◌^◌, ◌<◌, ◌≤◌}
 use mathlib.Core.Bool.{Bool, true, false, ◌&&◌}
 use mathlib.Core.List.{List}
 use native.Mathlib.Omega.{arith}
 use native.Mathlib.Decide.{ℕ_discrete}
-use native.Mathlib.Nat.{zero-add}
 use lib.ListN.{length, get_or}
+use lib.Dec.{eqb, leb}
+use borrow.Author.Tests.{eq-eqb, eqb-true, lt-ltb, ltb-true, le-leb, leb-true}
+use native.Mathlib.Nat.{zero-add}
 use Rattle.std.specs.Bool.{MatchBool}
 use Rattle.std.specs.List.{AllWithin, HoldsAt, range_with_len}
 use Rattle.std.proofs.lemmas.List.FromFn.{length-range_with_len, get_or-range_with_len}
 use Rattle.std.proofs.lemmas.Bool.{false_from_ne_true}
 use Rattle.word.proofs.Tests.{true_false}
-use lib.Dec.{eqb, leb}
-use borrow.Author.Tests.{eq-eqb, eqb-true, lt-ltb, ltb-true, le-leb, leb-true}
 use Rattle.layout.specs.Layout as at
 use Rattle.records.specs.Contents.{sound_records}
 use Rattle.records.proofs.Counts.{either}
@@ -76,6 +76,18 @@ module _ (n : ℕ) (t : List ℕ) where
 -- ---- the blocks
 
 -- b, the block of the last of k cores, is sound or not, as r says
+pub blocks_step : (k n : ℕ) (t b : List ℕ) (r : Bool) → 0 < k → b ≡ block t (k - 1) → r ≡ sound_block n b → r && sound_blocks (k - 1) n t ≡ sound_blocks k n t
+unfolding sound_blocks
+blocks_step zero n t b r h p q = absurd (omega arith)
+blocks_step (suc k) n t b r h p q =
+    let e : suc k - 1 ≡ k = omega arith in
+    ap (λ (s : Bool). s && sound_blocks (suc k - 1) n t) (q ∙ ap (sound_block n) p) ∙ ap (λ (j : ℕ). sound_block n (block t j) && sound_blocks j n t) e
+
+pub blocks_none : (k n : ℕ) (t : List ℕ) → k ≤ 0 → sound_blocks k n t ≡ true
+unfolding sound_blocks
+blocks_none zero n t h = refl
+blocks_none (suc k) n t h = absurd (omega arith)
+
 pub blocks_elim : (k n : ℕ) (t : List ℕ) → sound_blocks k n t ≡ true → (j : ℕ) → j < k → sound_block n (block t j) ≡ true
 unfolding sound_blocks
 blocks_elim zero n t e j h = absurd (omega arith)

@@ -53,7 +53,12 @@ fn sound_blocks(tables: &[u32], cores: u32, bytes: usize) -> bool
     requires { (cores ≤ 4) × (block_at cores ≤ length tables.now) }
     ensures { result ≡ x.sound_blocks cores bytes tables.now }
 {
-    (0..cores).all(|k| sound_block(layout::block(tables, k), bytes))
+    for k in (0..cores).rev() {
+        if !sound_block(layout::block(tables, k), bytes) {
+            return false;
+        }
+    }
+    true
 }
 
 // Whether the header is sound and the lengths agree with it.

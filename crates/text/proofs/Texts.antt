@@ -1,4 +1,4 @@
--- Laws of texts: one text after another, in a buffer and in a Text, and the digits of a number.
+-- Laws of texts: one byte more and one text after another, in a buffer and in a Text, and the digits of a number.
 -- Assumes nothing.
 use Rattle.std.specs.Prelude.{if◌then◌else◌}
 use mathlib.Core.Path.{◌≡◌, refl, sym, ap, ap₂, ◌∙◌, subst}
@@ -9,10 +9,10 @@ use Prim.Native.Nat.{ℕ, zero, suc, ◌+◌, ◌-◌, ◌/◌, ◌%◌, ◌^◌
 use native.Mathlib.Nat.{mod-eq_of_lt, pow-suc, one-le-pow, pow-le-pow_right}
 use native.Mathlib.Numerals.{add-one}
 use native.Mathlib.Omega.{arith}
-use lib.ListN.{length, take, drop, length-append, length-drop}
+use lib.ListN.{length, take, drop, get_or, set, length-append, length-set, length-drop}
 use Rattle.std.proofs.Common.{replicate}
-use Rattle.std.proofs.lemmas.List.{replicate_more, take-replicate}
-use lib.Seq.{length-take-le, drop-drop}
+use Rattle.std.proofs.lemmas.List.{replicate_more, take-replicate, drop-replicate}
+use lib.Seq.{take-suc, take-suc-set, length-take-le, take_all, drop-set-lt, drop-drop}
 use borrow.Rule.Slice.PartMut.{put_mid}
 use Rattle.std.proofs.lemmas.Slice.{take-put_mid, drop-put_mid}
 use borrow.Author.Tests.{lt-ltb, le-ltb}
@@ -107,10 +107,52 @@ put_there b at t h e =
 pub reworded : {b : List ℕ} {at : ℕ} {x y : List ℕ} {r : ℕ} {c : List ℕ} → x ≡ y → Put b at x r c → Put b at y r c
 reworded {b} {at} {x} {y} {r} {c} e p = subst (λ (t : List ℕ). Put b at t r c) e p
 
+-- one byte after a text in a buffer, and alone
+pub then_byte :
+    (b : List ℕ) (at : ℕ) (x : List ℕ) (r : ℕ) (c : List ℕ) (v : ℕ) → Put b at x r c → r < length c
+    → Put b at (x ++ (v ∷ [])) (r + 1) (set c r v)
+then_byte b at x r c v p h =
+    record {
+      place = omega (arith, length-append x (v ∷ []), p.place);
+      kept = length-set c r v ∙ p.kept;
+      front = rw (add-one r, take-suc-set c r v h, p.front, append_assoc);
+      beyond = drop-set-lt (r + 1) c r v (omega arith) ∙ further c b r (r + 1) (omega arith) p.beyond;
+    }
+
+pub single : (b : List ℕ) (at v : ℕ) → at < length b → Put b at (v ∷ []) (at + 1) (set b at v)
+single b at v h = then_byte b at [] at b v (nothing b at) h
+
+-- the next byte of a text; and all its bytes
+pub one_more :
+    (b : List ℕ) (at : ℕ) (t : List ℕ) (i : ℕ) (c : List ℕ) → Put b at (take i t) (at + i) c → i < length t → at + i < length c
+    → Put b at (take (i + 1) t) (at + (i + 1)) (set c (at + i) (get_or t i 0))
+one_more b at t i c p h k =
+    let e : at + i + 1 ≡ at + (i + 1) = omega arith in
+    let f : take i t ++ (get_or t i 0 ∷ []) ≡ take (i + 1) t = rw (add-one i, take-suc t i 0 h) refl in
+    rw e at (reworded f (then_byte b at (take i t) (at + i) c (get_or t i 0) p k))
+
+pub whole : (b : List ℕ) (at : ℕ) (t : List ℕ) (i r : ℕ) (c : List ℕ) → Put b at (take i t) r c → length t ≤ i → Put b at t r c
+whole b at t i r c p h = reworded (take_all i t h) p
+
+-- one blank more
+pub blank_more :
+    (b : List ℕ) (at i : ℕ) (c : List ℕ) → Put b at (blanks i) (at + i) c → at + i < length c → Put b at (blanks (i + 1)) (at + (i + 1)) (set c (at + i) 32)
+unfolding blanks
+blank_more b at i c p h =
+    let e : at + i + 1 ≡ at + (i + 1) = omega arith in
+    let f : blanks i ++ (32 ∷ []) ≡ blanks (i + 1) = ap blanks (sym (add-one i)) in
+    rw e at (reworded f (then_byte b at (blanks i) (at + i) c 32 p h))
+
 -- the digits that a width holds, counted as io::hex counts them
 pub hex_digits :
     {x : List ℕ} (n w k : ℕ) → 0 < w → w ≤ 16 → n < 16 ^ w → x ≡ last_digits 16 k n → IsDigitCount 16 (min (max w 1) 16) n k → x ≡ last_digits 16 w n
 hex_digits n w k low high h e f = e ∙ ap (λ (j : ℕ). last_digits 16 j n) (exact n w k low high h f)
+
+-- those digits in a buffer
+pub hexed :
+    {b : List ℕ} {at : ℕ} {x : List ℕ} {r : ℕ} {c : List ℕ} (n w k : ℕ) → 0 < w → w ≤ 16 → n < 16 ^ w → Put b at x r c → x ≡ last_digits 16 k n → k ≡ length x
+    → IsDigitCount 16 (min (max w 1) 16) n k → Put b at (last_digits 16 w n) r c × (r ≡ at + w)
+hexed n w k low high h p e l f = (reworded (hex_digits n w k low high h e f) p, omega (arith, exact n w k low high h f, l, p.place))
 
 pub blanks_is : (n : ℕ) → replicate n 32 ≡ blanks n
 unfolding blanks
@@ -127,6 +169,15 @@ padded_is {x} n w k h v e l f =
     let u : w - k ≡ w - length (decimal n) = ap (λ (a : ℕ). w - a) (l ∙ ap length t) in
     ap (λ (b : List ℕ). b ++ x) (take-replicate (w - k) 20 32 (omega arith) ∙ blanks_is (w - k)) ∙ ap₂ (λ (i : ℕ) (d : List ℕ). blanks i ++ d) u t
 
+-- the same put into a buffer, the blanks first
+pub lined :
+    {b : List ℕ} {at : ℕ} {i : ℕ} {q : ℕ} {d : List ℕ} {x : List ℕ} {r : ℕ} {c : List ℕ} (n w k : ℕ) → n < 2 ^ 64 → w ≤ 20 → Put b at (blanks i) q d
+    → Put d q x r c → i ≡ w - k → x ≡ last_digits 10 k n → k ≡ length x → IsDigitCount 10 1 n k → Put b at (padded w n) r c × (r ≤ at + 20)
+unfolding padded
+lined {i} n w k h v p s j e l f =
+    let t = numbered n k h e f in
+    (follow (reworded (ap blanks (j ∙ ap (λ (a : ℕ). w - a) (l ∙ ap length t))) p) (reworded t s), omega (arith, few n k h f, j, l, p.place, s.place, length_blanks i))
+
 pub padded_length : (w n : ℕ) → w ≤ 20 → length (padded w n) ≤ 20
 unfolding padded
 padded_length w n h = omega (arith, length-append (blanks (w - length (decimal n))) (decimal n), length_blanks (w - length (decimal n)), decimal_length 20 n)
@@ -142,6 +193,13 @@ grown s x y e f g = f ∙ ap (λ (l : List ℕ). l ++ y) e ∙ append_assoc s x 
 
 pub as_it_was : (s : List ℕ) {x : List ℕ} → [] ≡ x → s ≡ s ++ x
 as_it_was s e = sym (append-nil s) ∙ ap (λ (l : List ℕ). s ++ l) e
+
+-- zeros from l on, of n bytes in all, are zeros from l + k on, where bytes beyond that place stay
+pub zeros_left :
+    (b c : List ℕ) (l k n : ℕ) → drop l b ≡ replicate (n - l) 0 → drop (l + k) c ≡ drop (l + k) b → drop (l + k) c ≡ replicate (n - (l + k)) 0
+zeros_left b c l k n e f =
+    let m : n - l - k ≡ n - (l + k) = omega arith in
+    f ∙ sym (drop-drop k l b) ∙ ap (drop k) e ∙ drop-replicate k (n - l) 0 ∙ ap (λ (i : ℕ). replicate i 0) m
 
 -- what was added, in other words
 pub told : (s x : List ℕ) {u y : List ℕ} → u ≡ s ++ x → x ≡ y → u ≡ s ++ y

@@ -1,7 +1,7 @@
 // Texts (specs/Text.antt): bytes, numbers in decimal and in hexadecimal, numbers that line up.
 #![tactic(auto)]
 
-ghost use Rattle.std.specs.Prelude.{◌≡◌, ℕ, List, ◌∷◌, [], ◌++◌, ◌+◌, ◌-◌, ◌≤◌, ◌<◌, ◌^◌, length, take};
+ghost use Rattle.std.specs.Prelude.{◌≡◌, ℕ, List, ◌∷◌, [], ◌++◌, ◌+◌, ◌-◌, ◌≤◌, ◌<◌, ◌^◌, length, take, drop, replicate};
 ghost use Rattle.io.specs.Digits.{last_digits};
 ghost use Rattle.text.specs.Text.{Put, decimal, padded};
 
@@ -17,6 +17,24 @@ pub fn put(out: &mut [u8], at: usize, text: &[u8]) -> usize
     end
 }
 
+// The decimal digits of a number, where there is room for them.
+pub fn put_decimal(out: &mut [u8], at: usize, n: u64) -> usize
+    requires { at + length (decimal n) ≤ length out.old }
+    ensures { Put out.old at (decimal n) result out.new }
+{
+    let mut digits = [0u8; 20];
+    let k = io::decimal(n, &mut digits);
+    put(out, at, &digits[..k])
+}
+
+// The same where there is room for 20, the most that there are.
+pub fn put_number(out: &mut [u8], at: usize, n: u64) -> usize
+    requires { at + 20 ≤ length out.old }
+    ensures { Put out.old at (decimal n) result out.new × (result ≤ at + 20) }
+{
+    put_decimal(out, at, n)
+}
+
 // A text of at most N bytes. Its methods put bytes and numbers behind what is written; each contract says the text that
 // is added, which `write!` and Display do not say.
 #[derive(Drop)]
@@ -25,13 +43,13 @@ pub struct Text<const N: usize> {
     len: usize,
 }
 
-// Clauses see the bytes that are written so far.
+// Clauses see the bytes that are written so far; behind them stand zeros.
 impl<const N: usize> Model for Text<N> {
     ghost Value = { List ℕ };
 
     ghost view = { λ t. take t.len t.bytes };
 
-    ghost invariant = { λ t. t.len ≤ N };
+    ghost invariant = { λ t. (t.len ≤ N) × (drop t.len t.bytes ≡ replicate (N - t.len) 0) };
 }
 
 impl<const N: usize> Text<N> {
@@ -48,6 +66,13 @@ impl<const N: usize> Text<N> {
         ensures { result.now ≡ self.now }
     {
         &self.bytes[..self.len]
+    }
+
+    // The text with the zeros behind it.
+    pub fn as_padded(&self) -> &[u8; N]
+        ensures { result.now ≡ self.now ++ replicate (N - length self.now) 0 }
+    {
+        &self.bytes
     }
 
     pub fn put(&mut self, bytes: &[u8])

@@ -4,7 +4,7 @@ use Rattle.std.specs.Prelude.{Some}
 use Rattle.std.specs.Bool.{MatchBool}
 use Rattle.std.specs.List.{HoldsAt, AllWithin}
 use mathlib.Core.Bool.{Bool, true, false}
-use mathlib.Core.Path.{◌≡◌, refl, sym, ap, ap₂, ◌∙◌}
+use mathlib.Core.Path.{◌≡◌, refl, sym, ap, ap₂, ◌∙◌, subst}
 use mathlib.Core.List.{List}
 use mathlib.Core.Logic.{⊎_elim}
 use Prim.Native.Nat.{ℕ, ◌+◌, ◌*◌, ◌/◌, ◌%◌, ◌^◌, ◌≤◌, ◌<◌}
@@ -33,6 +33,12 @@ module _ (b : List ℕ) (p i : ℕ) where
       (side k (32 * i))
 
   module _ (before : Unset (λ (k : ℕ). bit_at b p k) (32 * i)) where
+    pub word_clear : get_or b (p + i) 0 ≡ 0 → Unset (λ (k : ℕ). bit_at b p k) (32 * (i + 1))
+    word_clear z =
+        let n : 32 * i + 32 ≡ 32 * (i + 1) = omega arith in
+        let c : Unset word 32 = λ k l e. let o : word k ≡ 0 = ap (λ (w : ℕ). bit w k) z ∙ bit_zero k in omega arith in
+        subst (λ (m : ℕ). Unset (λ (k : ℕ). bit_at b p k) m) n (clear_part 32 (omega arith) before c)
+
     pub word_found : i < 8 → 0 < get_or b (p + i) 0 → get_or b (p + i) 0 < 2 ^ 32 → lowest b p ≡ Some (32 * i + count_trailing_zeros 32 (get_or b (p + i) 0))
     word_found l h m =
         let w = get_or b (p + i) 0 in

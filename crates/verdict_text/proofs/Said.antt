@@ -8,13 +8,15 @@ use mathlib.Core.List.{List, []}
 use Prim.Native.Nat.{ℕ, ◌+◌, ◌*◌, ◌-◌, ◌≤◌, ◌<◌, min}
 use native.Mathlib.Omega.{arith}
 use lib.Dec.{T, eqb, ltb, leb, leb→le}
-use lib.ListN.{length, take, drop, replicate, length-replicate}
+use lib.ListN.{length, take, drop, replicate, length-drop, length-replicate}
 use lib.Seq.{take_all, take-take, length-take-le}
 use borrow.Author.Tests.{lt-ltb, le-ltb, eq-eqb, ne_eqb, eqb-true, not-false}
 use Rattle.word.specs.Bytes.{words_in}
 use Rattle.word.proofs.Laws.{side}
 use Rattle.word.proofs.Tests.{and_right}
-use Rattle.word.proofs.Bytes.{bytes_take}
+use Rattle.word.proofs.Bytes.{bytes_take, length_words}
+use Rattle.text.specs.Text.{Put}
+use Rattle.text.proofs.Texts.{reworded}
 use Rattle.layout.specs.Layout.{table_words, most_cores, most_pages}
 use Rattle.tables.specs.Sound.{up_to}
 use Rattle.tables.proofs.Answers.{up_to_lem}
@@ -173,6 +175,21 @@ module _ (input : List ℕ) (n : ℕ) (h : machine_bytes most_cores (min (input_
   pub enough : (a : List ℕ) → judged a (take n input) ≡ judged a input
   unfolding judged
   enough a = ap (λ (x : List ℕ). if ltb 4096 (length a) then wrong.long_arguments_text else x) (same_answer (asked_from 0 (arguments_in a)))
+
+-- ---- the report on what was read
+
+report_same : (g n : ℕ) (b t : List ℕ) → t ≡ words_in n b → report_text g t (take (length b - 4 * length t) (drop (4 * length t) b)) ≡ report_text g (words_in n b) (drop (4 * n) b)
+report_same g n b t p =
+    let k : length t ≡ n = ap length p ∙ length_words n b in
+    let m : List ℕ = take (length b - 4 * length t) (drop (4 * length t) b) in
+    let q : m ≡ drop (4 * n) b
+    = ap (λ (j : ℕ). take (length b - 4 * j) (drop (4 * j) b)) k ∙ take_all (length b - 4 * n) (drop (4 * n) b) (omega (arith, length-drop (4 * n) b)) in
+    ap (λ (x : List ℕ). report_text g x m) p ∙ ap (λ (x : List ℕ). report_text g (words_in n b) x) q
+
+pub report_read :
+    (g n : ℕ) (b t : List ℕ) → t ≡ words_in n b → {e : List ℕ} {r : ℕ} {c : List ℕ} → Put e 0 (report_text g t (take (length b - 4 * length t) (drop (4 * length t) b))) r c
+    → Put e 0 (report_text g (words_in n b) (drop (4 * n) b)) r c
+report_read g n b t p = reworded (report_same g n b t p)
 
 -- an array of zeros has room for the tables
 pub tables_room : (n x : ℕ) → n ≤ 1056 → length (take n (replicate 1056 x)) ≡ n

@@ -9,6 +9,7 @@ ghost use Rattle.text.specs.Text.{Put};
 ghost use Rattle.word.specs.Bytes.{words_in};
 ghost use Rattle.judgement.specs.Report.{report_text};
 ghost use Rattle.verdict_text.specs.Judged as judged;
+ghost use Rattle.verdict_text.specs.Wrong as wrong_text;
 ghost use Rattle.verdict_text.specs.inner.First.{first};
 
 use layout::{BLOCK_WORDS, HEADER_WORDS};
@@ -16,6 +17,9 @@ use text::{Text, put};
 
 // What the text may take.
 pub const TEXT: usize = 12288;
+
+// What a line on wrong arguments may take.
+const LINE: usize = 200;
 
 // The most that arguments may take, with a zero byte after each.
 const MOST_ARGUMENTS: usize = 4096;
@@ -94,21 +98,45 @@ fn put_no_core<const N: usize>(text: &mut Text<N>, a: &[u8], at: usize)
     wrong::put_no_core(text, &a[at..at + n], false);
 }
 
-// What is said of these arguments and this input.
-fn put_judged<const N: usize>(text: &mut Text<N>, a: &[u8], input: &[u8])
-    requires room { length text.old + 12288 ≤ N }
-    ensures text { text.new ≡ text.old ++ judged.judged a.now input.now }
-    ensures bound { length text.new ≤ length text.old + 12288 }
+// The line on arguments that are too long, at the start of the buffer; answers its length.
+fn judge_long_arguments(out: &mut [u8]) -> usize
+    requires { 200 ≤ length out.old }
+    ensures { Put out.old 0 wrong_text.long_arguments_text result out.new × (result ≤ 200) }
 {
-    if MOST_ARGUMENTS < a.len() {
-        wrong::put_long_arguments(text);
-        return;
-    }
-    match arguments::ask(a) {
-        Err(at) => put_no_core(text, a, at),
-        Ok(0) => wrong::put_no_group(text),
-        Ok(group) => put_input(text, input, group),
-    }
+    let mut text: Text<LINE> = Text::new();
+    wrong::put_long_arguments(&mut text);
+    put(out, 0, text.as_bytes())
+}
+
+// The line on an argument that names no core.
+fn judge_no_core(a: &[u8], at: usize, out: &mut [u8]) -> usize
+    requires { (200 ≤ length out.old) × (at ≤ length a.now) }
+    ensures { Put out.old 0 (judged.no_core (first (drop at a.now))) result out.new × (result ≤ 200) }
+{
+    let mut text: Text<LINE> = Text::new();
+    put_no_core(&mut text, a, at);
+    put(out, 0, text.as_bytes())
+}
+
+// The line where no core is named.
+fn judge_no_group(out: &mut [u8]) -> usize
+    requires { 200 ≤ length out.old }
+    ensures { Put out.old 0 wrong_text.no_group_text result out.new × (result ≤ 200) }
+{
+    let mut text: Text<LINE> = Text::new();
+    wrong::put_no_group(&mut text);
+    put(out, 0, text.as_bytes())
+}
+
+// What is said of a group. Its text is large: by itself it is part of no frame where the arguments are wrong.
+#[inline(never)]
+fn judge_group(group: u32, input: &[u8], out: &mut [u8]) -> usize
+    requires { 12288 ≤ length out.old }
+    ensures { Put out.old 0 (judged.of_input group input.now) result out.new × (result ≤ 12288) }
+{
+    let mut text: Text<TEXT> = Text::new();
+    put_input(&mut text, input, group);
+    put(out, 0, text.as_bytes())
 }
 
 // The text for these arguments and this input, at the start of the buffer; answers its length.
@@ -116,9 +144,14 @@ pub fn judge(a: &[u8], input: &[u8], out: &mut [u8]) -> usize
     requires { 12288 ≤ length out.old }
     ensures { Put out.old 0 (judged.judged a.now input.now) result out.new × (result ≤ 12288) }
 {
-    let mut text: Text<TEXT> = Text::new();
-    put_judged(&mut text, a, input);
-    put(out, 0, text.as_bytes())
+    if MOST_ARGUMENTS < a.len() {
+        return judge_long_arguments(out);
+    }
+    match arguments::ask(a) {
+        Err(at) => judge_no_core(a, at, out),
+        Ok(0) => judge_no_group(out),
+        Ok(group) => judge_group(group, input, out),
+    }
 }
 
 // Whether the input counts: where not, the same is said whatever it is.

@@ -1,6 +1,6 @@
 -- Laws of the bytes at a place of a list, for every number of them.
 -- Assumes nothing.
-use Rattle.std.proofs.Common.{◌≡◌, ℕ, zero, suc, ◌+◌, ◌-◌, ◌*◌, ◌/◌, ◌%◌, ◌^◌, ◌<◌, ◌≤◌, List, [], ◌∷◌, ◌++◌, length, take, drop, set, sym, refl, ap, ◌∙◌, add-one, arith, append_assoc, append-nil, length-append, length-set, get_or-drop, take_all, get_or-take, take-suc-set}
+use Rattle.std.proofs.Common.{◌≡◌, ℕ, zero, suc, ◌+◌, ◌-◌, ◌*◌, ◌/◌, ◌%◌, ◌^◌, ◌<◌, ◌≤◌, List, [], ◌∷◌, ◌++◌, length, get_or, take, drop, set, sym, refl, ap, ◌∙◌, add-one, arith, append_assoc, append-nil, length-append, length-set, get_or-drop, take_all, get_or-take, take-suc-set}
 use Rattle.std.proofs.Math.Seq.{paste, paste-zero, paste-suc}
 use Rattle.std.proofs.lemmas.List.Edits.{paste-paste}
 use native.Mathlib.Nat.{pow-succ', pow-le-pow_right}
@@ -24,6 +24,14 @@ bytes_fit n k m a h p =
     let q : 256 ^ k ≤ 256 ^ n = pow-le-pow_right (omega arith) p in
     omega (arith, bytes_lt k m a h)
 
+-- one byte more in front
+pub bytes_more : (m : List ℕ) (d at left : ℕ) → 0 < left → left ≤ d →
+    get_or m (at + (left - 1)) 0 + 256 * bytes_at (d - left) m (at + left) ≡ bytes_at (d - (left - 1)) m (at + (left - 1))
+bytes_more m d at left p q =
+    let e : d - (left - 1) ≡ suc (d - left) = omega arith in
+    let f : at + left ≡ at + (left - 1) + 1 = omega arith in
+    rw (e, f)
+
 pub put_length : (d : ℕ) (m : List ℕ) (a v : ℕ) → length (put d m a v) ≡ length m
 put_length zero m a v = refl
 put_length (suc d) m a v = put_length d (set m a (v % 256)) (a + 1) (v / 256) ∙ length-set m a (v % 256)
@@ -32,6 +40,40 @@ put_length (suc d) m a v = put_length d (set m a (v % 256)) (a + 1) (v / 256) �
 pub put_bytes : (d : ℕ) (m : List ℕ) (a v : ℕ) → Bytes m → Bytes (put d m a v)
 put_bytes zero m a v b = b
 put_bytes (suc d) m a v b = put_bytes d (set m a (v % 256)) (a + 1) (v / 256) (set_below m a (v % 256) b (omega arith))
+
+-- one byte is put, the others are left to put
+pub put_more : (m : List ℕ) (d at i v : ℕ) → i < d →
+    put (d - (i + 1)) (set m (at + i) (v % 256)) (at + (i + 1)) (v / 256) ≡ put (d - i) m (at + i) v
+put_more m d at i v h =
+    let e : d - i ≡ suc (d - (i + 1)) = omega arith in
+    let f : at + (i + 1) ≡ at + i + 1 = omega arith in
+    rw (e, f)
+
+-- ---- the ends of a loop over the bytes
+
+pub read_start : (m : List ℕ) (d at : ℕ) → 0 ≡ bytes_at (d - d) m (at + d)
+read_start m d at =
+    let e : d - d ≡ 0 = omega arith in
+    rw e
+
+pub read_done : (m : List ℕ) (d at left : ℕ) → left ≤ 0 → bytes_at (d - left) m (at + left) ≡ bytes_at d m at
+read_done m d at left h =
+    let e : d - left ≡ d = omega arith in
+    let f : at + left ≡ at = omega arith in
+    rw (e, f)
+
+pub write_start : (m : List ℕ) (d at v : ℕ) → put (d - 0) m (at + 0) v ≡ put d m at v
+write_start m d at v =
+    let e : d - 0 ≡ d = omega arith in
+    let f : at + 0 ≡ at = omega arith in
+    rw (e, f)
+
+pub write_done : (m : List ℕ) (d at i v : ℕ) → d ≤ i → m ≡ put (d - i) m (at + i) v
+write_done m d at i v h =
+    let e : d - i ≡ 0 = omega arith in
+    rw e
+
+-- ---- the low bytes of a number
 
 -- the d low bytes of a number, the lowest first
 abbrev pub low_bytes : ℕ → ℕ → List ℕ
@@ -90,6 +132,12 @@ length_words (suc n) b = length-append (words_in n b) (bytes_at 4 b (4 * n) ∷ 
 pub words_start : (b : List ℕ) → [] ≡ words_in 0 b
 unfolding words_in
 words_start b = refl
+
+-- all words
+pub words_end : (t b : List ℕ) (i n : ℕ) → length t ≡ n → i ≤ n → n ≤ i → take i t ≡ words_in i b → t ≡ words_in n b
+words_end t b i n e h k f =
+    let p : i ≡ n = omega arith in
+    sym (take_all i t (omega arith)) ∙ f ∙ ap (λ (j : ℕ). words_in j b) p
 
 -- one word more
 pub words_more :

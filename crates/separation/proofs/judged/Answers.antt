@@ -2,7 +2,9 @@
 -- Assumes nothing.
 use mathlib.Core.Path.{sym, ap, ◌∙◌}
 use Prim.Native.Nat.{ℕ}
+use native.Mathlib.Omega.{arith}
 use Rattle.std.proofs.lemmas.Result.{err_from_is_err_and}
+use Rattle.tables.proofs.Lift.{header}
 use Rattle.reach.specs.Reach.{is_group}
 use Rattle.separation.proofs.Deciding.{says_unsound, says_group, says_mode, says_pages}
 use Rattle.separation.proofs.judged.Goals as goal
@@ -19,6 +21,11 @@ returns-then-not-is_group c =
     let e = c.in_ok-machine.ensures in
     let g = c.is_group.ensures ∙ ap (λ (n : ℕ). is_group c.args.group n) c.cores.ensures.0 in
     rw (sym e.0, sym e.1) (says_group M.tables.now M.memory.now c.args.group M.is_sound (sym g ∙ c.if-not-is_group.true))
+
+pub all_in_user_mode-requires : goal.all_in_user_mode-requires
+all_in_user_mode-requires c =
+    let h = header _ _ c.in_ok-machine.machine.is_sound in
+    (h.few_cores, omega (arith, h.long))
 
 pub returns-then-not-all_in_user_mode : goal.returns-then-not-all_in_user_mode
 returns-then-not-all_in_user_mode c =

@@ -4,8 +4,12 @@
 use Rattle.std.specs.Prelude.{Bool, ◌&&◌, ◌||◌, not, List, ℕ, eqb}
 use Rattle.word.specs.Word.{is_set}
 use Rattle.layout.specs.Blocks.{block}
-use Rattle.tables.specs.Views.{runs}
+use Rattle.tables.specs.Views.{runs, user_mode}
 use Rattle.separation.specs.Apart.{runs_as_user}
+
+-- a core, by whether it is of the group and by its block, is of neither side, or it is running in user mode
+abbrev pub block_passes : Bool → List ℕ → Bool
+block_passes member b = not (member || runs b) || (runs b && user_mode b)
 
 -- core k is of neither side, or it is running in user mode
 abbrev pub passes : ℕ → List ℕ → ℕ → Bool

@@ -15,14 +15,14 @@ returns-else-d-width c = rw (← c.sub-offset.ensures, lt-ltb _ _ c.if-offset-wi
 pub returns-then-width-eq0 : goal.returns-then-width-eq0
 unfolding cover
 returns-then-width-eq0 c =
-    rw (← c.sub-offset.ensures, le-ltb _ _ c.if-offset-width.false, ← c.sub.ensures, lt-ltb _ _ c.if-begins_within.true, eq-eqb _ _ c.if-width-eq0.true)
+    rw (← c.sub-offset.ensures, le-ltb _ _ c.if-offset-width.false, ← c.sub.ensures, lt-ltb c.sub.result c.args.d c.if-begins_within.true, eq-eqb _ _ c.if-width-eq0.true)
 
 pub returns-else-width-eq0 : goal.returns-else-width-eq0
 unfolding cover
 returns-else-width-eq0 c =
-    rw (← c.sub-offset.ensures, le-ltb _ _ c.if-offset-width.false, ← c.sub.ensures, lt-ltb _ _ c.if-begins_within.true, ne_eqb _ _ c.if-width-eq0.false)
+    rw (← c.sub-offset.ensures, le-ltb _ _ c.if-offset-width.false, ← c.sub.ensures, lt-ltb c.sub.result c.args.d c.if-begins_within.true, ne_eqb _ _ c.if-width-eq0.false)
 
 pub returns : goal.returns
 unfolding cover
 returns c =
-    rw (← c.sub-offset.ensures, le-ltb _ _ c.if-offset-width.false, ← c.sub.ensures, le-ltb _ _ c.if-begins_within.false)
+    rw (← c.sub-offset.ensures, le-ltb _ _ c.if-offset-width.false, ← c.sub.ensures, le-ltb c.sub.result c.args.d c.if-begins_within.false)

@@ -1,16 +1,25 @@
-use mathlib.Core.Path.{◌≡◌, refl}
-use mathlib.Core.Bool.{true, false}
+use mathlib.Core.Path.{refl, sym, ap, ◌∙◌}
+use Prim.Native.Nat.{◌-◌}
 use native.Mathlib.Omega.{arith}
-use borrow.Author.Rules.{rules}
-use borrow.Author.Tests.{tests}
-use Rattle.std.proofs.lemmas.Iterator.{cases_from_all, YieldsList-from_range}
-use Rattle.layout.specs.Blocks.{block}
-use Rattle.tables.specs.Sound.{sound_block}
-use Rattle.tables.proofs.Parts.{blocks_by}
+use mathlib.Core.Bool.{Bool, ◌&&◌}
+use Rattle.tables.specs.Sound.{sound_blocks}
+use Rattle.tables.proofs.Parts.{blocks_step, blocks_none}
 use Rattle.tables.proofs.sound_blocks.Goals as goal
 
+pub loop-k-init : goal.loop-k-init
+loop-k-init c = refl
+
+pub returns-then-not-sound_block : goal.returns-then-not-sound_block
+returns-then-not-sound_block c =
+    ap (λ (r : Bool). r && sound_blocks (c.loop-k.k - 1) c.args.bytes c.args.tables.now) (sym c.if-not-sound_block.true)
+    ∙ blocks_step c.loop-k.k _ _ _ _ c.loop-k-test.true c.block.ensures.0 c.sound_block.ensures
+    ∙ c.loop-k.invariant
+
+pub loop-k-preserved : goal.loop-k-preserved
+loop-k-preserved c =
+    ap (λ (r : Bool). r && sound_blocks (c.loop-k.k - 1) c.args.bytes c.args.tables.now) (sym c.if-not-sound_block.false)
+    ∙ blocks_step c.loop-k.k _ _ _ _ c.loop-k-test.true c.block.ensures.0 c.sound_block.ensures
+    ∙ c.loop-k.invariant
+
 pub returns : goal.returns
-returns c =
-    blocks_by _ _ _ _
-    (cases_from_all _ _ _ (λ j. sound_block c.args.bytes (block c.args.tables.now j) ≡ true) (λ j. sound_block c.args.bytes (block c.args.tables.now j) ≡ false)
-    c.all.ensures.ran (YieldsList-from_range 0 c.args.cores c.args.cores refl (omega arith)) (λ x q k. search (rules, tests)) (λ x q k. search (rules, tests)))
+returns c = sym (blocks_none _ _ _ (omega (arith, c.loop-k-test.false))) ∙ c.loop-k.invariant

@@ -7,4 +7,4 @@ use Rattle.separation.specs.inner.Sides.{passes}
 use Rattle.separation.proofs.sides.all_in_user_mode.Given as goal
 
 abbrev pub invariant-loop-k : goal.invariant-loop-k
-invariant-loop-k l = l.good ≡ all (passes l.group l.machine.tables.now) (range l.k)
+invariant-loop-k l = l.good ≡ all (passes l.group l.t) (range l.k)
