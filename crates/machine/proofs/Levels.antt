@@ -173,7 +173,7 @@ module _ (v : View) where
     data_known i w Faults = interrupt_known (causes v i w true) (omega arith) (causes_lt i w true)
     data_known i w Undecided = refl
 
-    instruction_known : (i : Instruction) (w : ℕ) → known (answered (on_instruction v io m w_r i w).effect) ≡ true
+    pub instruction_known : (i : Instruction) (w : ℕ) → known (answered (on_instruction v io m w_r i w).effect) ≡ true
     unfolding on_instruction on_access
     instruction_known i w = go (is_access i)
       where
@@ -203,7 +203,7 @@ module _ (v : View) where
         go false = interrupt_known (causes_without v true false) (omega arith) (without_lt true false)
 
 -- a guard that fails or cannot be decided gives 6 or 7
-settle_known : (j : Judged (Result Plan Refusal)) → known (answered j.effect) ≡ true → known (answered (settle j)) ≡ true
+pub settle_known : (j : Judged (Result Plan Refusal)) → known (answered j.effect) ≡ true → known (answered (settle j)) ≡ true
 unfolding settle known
 settle_known j h = go (any_of is_failure j.guards) (any_of is_undecided j.guards)
   where
